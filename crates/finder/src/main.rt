@@ -5,7 +5,7 @@
 #![tactic(auto)]
 
 ghost use Rattle.std.specs.Prelude.{◌≡◌, ◌≤◌, length};
-ghost use Rattle.io.specs.Counts.{IsPrefixLen};
+ghost use Rattle.input.specs.Reading.{IsPrefixLen};
 ghost use Rattle.report.specs.Lines.{longest_line};
 ghost use Rattle.finder.specs.Run.{report_end, ReportRan};
 
@@ -43,6 +43,8 @@ fn ended(whole: bool) -> End
 
 // Prints the report of what is held of the two files, where both could be read.
 fn report_held(
+    rt: &HostRuntime,
+    failure: &mut i32,
     files: Files,
     pattern: &[u8],
     board: &[u8],
@@ -63,12 +65,14 @@ fn report_held(
     }
     let parts = first.size;
     let nodes = second.size;
-    ended(print_report(&pattern[..parts], &board[..nodes], out, handed))
+    ended(print_report(rt, failure, &pattern[..parts], &board[..nodes], out, handed))
 }
 
 // Reads the two files and prints their report, by way of buffers that are lent as arrays: so their lengths are known by
 // their types, and no proof counts their bytes.
 fn report_files(
+    rt: &HostRuntime,
+    failure: &mut i32,
     pattern: &mut [u8; PATTERN_BYTES],
     board: &mut [u8; BOARD_BYTES],
     out: &mut [u8; PIECE_BYTES],
@@ -77,38 +81,54 @@ fn report_files(
     requires { handed.old ≡ 0 }
     ensures { ReportRan pattern.new board.new handed.new result.files result.end }
 {
-    let files = read_files(pattern, board);
-    let end = report_held(files, &pattern[..], &board[..], &mut out[..], handed);
+    let files = read_files(rt, pattern, board);
+    let end = report_held(
+        rt,
+        failure,
+        files,
+        &pattern[..],
+        &board[..],
+        &mut out[..],
+        handed,
+    );
     Run { files, end }
 }
 
 // Tells on standard error where the report is not whole.
-fn tell(end: End) {
+fn tell(rt: &HostRuntime, end: End, failure: i32) {
     match end {
         End::Whole => {}
-        End::Broken => os::fail(b"the report is not whole"),
-        End::NoPattern => input::cannot_read(b"pattern.cir"),
-        End::NoBoard => input::cannot_read(b"board.cir"),
+        End::Broken => output::fail(rt, "the report is not whole", failure),
+        End::NoPattern => input::cannot_read(rt, "pattern.cir"),
+        End::NoBoard => input::cannot_read(rt, "board.cir"),
     }
 }
 
-fn usage() {
-    io::write_all(
-        libc::STDERR_FILENO,
-        b"finder takes no argument: it reports on pattern.cir and board.cir in the folder that it is run in\n",
+fn usage(rt: &HostRuntime) {
+    output::tell(
+        rt,
+        "finder takes no argument: it reports on pattern.cir and board.cir in the folder that it is run in",
     );
 }
 
-fn main() {
-    if input::is_told(os::arg_count()) {
-        usage();
+fn main(rt: HostRuntime) {
+    if input::is_told(input::arg_count(&rt)) {
+        usage(&rt);
         return;
     }
     let mut pattern = [0u8; PATTERN_BYTES];
     let mut board = [0u8; BOARD_BYTES];
     let mut out = [0u8; PIECE_BYTES];
     let mut handed: usize = 0;
-    let run = report_files(&mut pattern, &mut board, &mut out, &mut handed);
+    let mut failure: i32 = 0;
+    let run = report_files(
+        &rt,
+        &mut failure,
+        &mut pattern,
+        &mut board,
+        &mut out,
+        &mut handed,
+    );
     let end = run.end;
-    tell(end);
+    tell(&rt, end, failure);
 }

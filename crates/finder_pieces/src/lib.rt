@@ -16,11 +16,19 @@ use report_answer::ReportAnswer;
 // Hands the bytes that come next to standard output: those of the report's items after the ones that were handed over
 // up to another, and notes how far that is. (An item is a line for each centre, which may be empty, or the last line.)
 // The answer says whether they were taken; where they were not, nothing is handed over any more.
-fn hand(pattern: &[u8], board: &[u8], handed: &mut usize, next: usize, bytes: &[u8]) -> bool
+fn hand(
+    rt: &HostRuntime,
+    failure: &mut i32,
+    pattern: &[u8],
+    board: &[u8],
+    handed: &mut usize,
+    next: usize,
+    bytes: &[u8],
+) -> bool
     requires { let p = first_edition pattern.now in let b = first_edition board.now in GoesOn p b handed.old next bytes.now }
     ensures { handed.new ≡ cond result next handed.old }
 {
-    let answer = output::write_whole(bytes);
+    let answer = output::write_whole(rt, failure, bytes);
     let Output::Written(_) = answer else {
         return false;
     };
@@ -31,6 +39,8 @@ fn hand(pattern: &[u8], board: &[u8], handed: &mut usize, next: usize, bytes: &[
 // Prints the report of two files that were opened piece by piece, by way of the buffer, until nothing is left of it or
 // a write fails. The answer says whether all of it was handed over.
 pub fn print_pieces(
+    rt: &HostRuntime,
+    failure: &mut i32,
     pattern: &[u8],
     board: &[u8],
     read: Pair,
@@ -70,7 +80,7 @@ pub fn print_pieces(
             return true;
         }
         let next = part.next;
-        if !hand(pattern, board, handed, next, &out[..size]) {
+        if !hand(rt, failure, pattern, board, handed, next, &out[..size]) {
             return false;
         }
         found = part.found as u16;

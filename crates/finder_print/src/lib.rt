@@ -13,7 +13,14 @@ use graph_neighbours::tables::{OFFSETS, TARGETS};
 use table::MASKS;
 
 // Opens the two files, of the first edition both, and prints their report.
-pub fn print_report(pattern: &[u8], board: &[u8], out: &mut [u8], handed: &mut usize) -> bool
+pub fn print_report(
+    rt: &HostRuntime,
+    failure: &mut i32,
+    pattern: &[u8],
+    board: &[u8],
+    out: &mut [u8],
+    handed: &mut usize,
+) -> bool
     requires { (longest_line ≤ length out.old) × (handed.old ≡ 0) }
     ensures { let p = first_edition pattern.now in let b = first_edition board.now in ReportHanded p b handed.new result }
 {
@@ -40,6 +47,8 @@ pub fn print_report(pattern: &[u8], board: &[u8], out: &mut [u8], handed: &mut u
         &mut sizes,
     );
     print_pieces(
+        rt,
+        failure,
         pattern,
         board,
         read,

@@ -3,7 +3,7 @@
 #![tactic(auto)]
 
 ghost use Rattle.std.specs.Prelude.{◌≡◌, length};
-ghost use Rattle.io.specs.Counts.{IsPrefixLen};
+ghost use Rattle.input.specs.Reading.{IsPrefixLen};
 ghost use Rattle.finder_read.specs.Cut.{most};
 ghost use Rattle.finder_read.specs.Held.{file_name_of, held_of};
 
@@ -32,6 +32,7 @@ pub struct Files {
 }
 
 // What was read, where an absent file counts as an empty one.
+#[tactic(auto, unfolding(crate::specs::Held::held_of))]
 fn as_read(found: FileFound) -> FileHeld
     ensures { result ≡ held_of found }
 {
@@ -50,19 +51,23 @@ fn as_read(found: FileFound) -> FileHeld
 
 // The bytes of the file in a role, by its name, none where it is absent, in a buffer of a byte more than the longest
 // that is accepted.
-fn load(role: Role, name: &[u8], buf: &mut [u8]) -> FileHeld
+fn load(rt: &HostRuntime, role: Role, name: &str, buf: &mut [u8]) -> FileHeld
     requires { (name.now ≡ file_name_of role) × (length buf.old ≡ most role) }
     ensures { IsPrefixLen result.size buf.new }
 {
-    as_read(input::load(name, buf))
+    as_read(input::load(rt, name, buf))
 }
 
 // The bytes of both files, in buffers that are lent as arrays: so their lengths are known by their types.
-pub fn read_files(pattern: &mut [u8; PATTERN_BYTES], board: &mut [u8; BOARD_BYTES]) -> Files
+pub fn read_files(
+    rt: &HostRuntime,
+    pattern: &mut [u8; PATTERN_BYTES],
+    board: &mut [u8; BOARD_BYTES],
+) -> Files
     ensures { IsPrefixLen result.pattern.size pattern.new × IsPrefixLen result.board.size board.new }
 {
-    let first = load(Role::Pattern, b"pattern.cir", &mut pattern[..]);
-    let second = load(Role::Board, b"board.cir", &mut board[..]);
+    let first = load(rt, Role::Pattern, "pattern.cir", &mut pattern[..]);
+    let second = load(rt, Role::Board, "board.cir", &mut board[..]);
     Files {
         pattern: first,
         board: second,

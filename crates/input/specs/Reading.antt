@@ -1,13 +1,15 @@
 -- What the contracts of reading cite.
-use Rattle.std.specs.Prelude.{Bool, true, false, cond, ◌≡◌, ℕ, ◌≤◌, eqb, ℤ, pos, negsuc}
+use Rattle.std.specs.Prelude.{Bool, true, false, cond, ◌≡◌, ℕ, ◌≤◌, eqb, ℤ, Result, Ok, Err, List, length, take}
+use Rattle.std.specs.declared.fs.File.{File}
+use Rattle.std.specs.declared.io.Error.{Error}
 use Rattle.output.specs.Writing.{is_error}
 use Rattle.input.specs.declared.FileFound.{FileFound}
 use Rattle.input.specs.declared.FileFound.TheVariants as found
 
--- an open file has a number from 0 on
-unfoldable pub is_open : ℤ → Bool
-is_open (pos fd) = true
-is_open (negsuc fd) = false
+-- an open file is one, whatever its number is, from 0 on
+unfoldable pub is_open : Result File Error → Bool
+is_open (Ok file) = true
+is_open (Err error) = false
 
 -- 'absent': the file could not be opened for ENOENT, which is 2, and for no other error
 unfoldable pub is_absent : ℤ → Bool
@@ -18,12 +20,12 @@ unfoldable pub unopened_of : ℤ → FileFound
 unopened_of error = cond (is_absent error) found.Absent found.Unreadable
 
 -- one read more answers 0 at the file's end, and there alone
-unfoldable pub is_end : ℤ → Bool
-is_end (pos more) = eqb more 0
-is_end (negsuc more) = false
+unfoldable pub is_end : Result ℕ Error → Bool
+is_end (Ok more) = eqb more 0
+is_end (Err error) = false
 
 -- what became of a file whose reading stopped after so many bytes, by what one read more answered
-unfoldable pub ended_of : ℕ → ℤ → FileFound
+unfoldable pub ended_of : ℕ → Result ℕ Error → FileFound
 ended_of size more = cond (is_end more) (found.Bytes size) found.Unreadable
 
 -- an open file is there, whatever its length; where it could be read, this is how many bytes were; and it could, where there was no more room
@@ -37,3 +39,7 @@ abbrev pub Within : ℕ → FileFound → Type 0
 Within room (found.Bytes size) = size ≤ room
 Within room found.Absent = Unit {0}
 Within room found.Unreadable = Unit {0}
+
+-- so many bytes stand at the front of a buffer
+abbrev pub IsPrefixLen : ℕ → List ℕ → Type 0
+IsPrefixLen n xs = (n ≤ length xs) × (n ≡ length (take n xs))

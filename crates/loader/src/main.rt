@@ -35,11 +35,21 @@ struct Run {
 }
 
 // Hands the file of a test board to standard output, and notes how many bytes it has. Nothing was handed over before.
-fn hand(seed: u32, n: u32, m: u32, k: u32, handed: &mut usize, bytes: &[u8]) -> Printed
+#[tactic(auto, unfolding(crate::specs::Printing::WriteTried))]
+fn hand(
+    rt: &HostRuntime,
+    failure: &mut i32,
+    seed: u32,
+    n: u32,
+    m: u32,
+    k: u32,
+    handed: &mut usize,
+    bytes: &[u8],
+) -> Printed
     requires { (handed.old ≡ 0) × (bytes.now ≡ test_board_bytes seed n m k) }
     ensures { WriteTried (length bytes.now) handed.new result }
 {
-    if output::hand(handed, bytes) {
+    if output::hand(rt, failure, handed, bytes) {
         return Printed::Whole;
     }
     Printed::Failed
@@ -47,6 +57,8 @@ fn hand(seed: u32, n: u32, m: u32, k: u32, handed: &mut usize, bytes: &[u8]) -> 
 
 // Makes the test board in a buffer that is long enough for each, and hands it on.
 fn print_test_board(
+    rt: &HostRuntime,
+    failure: &mut i32,
     seed: u32,
     n: u32,
     m: u32,
@@ -61,11 +73,17 @@ fn print_test_board(
     let TestBoardAnswer::Made(size) = answer else {
         return Printed::OutOfRange;
     };
-    hand(seed, n, m, k, handed, &out[..size])
+    hand(rt, failure, seed, n, m, k, handed, &out[..size])
 }
 
 // The test board that four words ask for.
-fn print_words(words: Asked, out: &mut [u8], handed: &mut usize) -> Printed
+fn print_words(
+    rt: &HostRuntime,
+    failure: &mut i32,
+    words: Asked,
+    out: &mut [u8],
+    handed: &mut usize,
+) -> Printed
     requires { (length_of editions.First 512 4096 ≤ length out.old) × (handed.old ≡ 0) }
     ensures { TestBoardRan words out.new handed.new result }
 {
@@ -85,31 +103,29 @@ fn print_words(words: Asked, out: &mut [u8], handed: &mut usize) -> Printed
     let Word::Number(k) = fourth else {
         return Printed::NoNumbers;
     };
-    print_test_board(seed, n, m, k, out, handed)
+    print_test_board(rt, failure, seed, n, m, k, out, handed)
 }
 
 // Tells on standard error where there is no test board.
-fn tell(printed: Printed) {
+fn tell(rt: &HostRuntime, printed: Printed, failure: i32) {
     match printed {
         Printed::Whole => {}
-        Printed::Failed => os::fail(b"the load is not whole"),
-        Printed::OutOfRange => {
-            io::write_all(
-                libc::STDERR_FILENO,
-                b"refused 10: N is from 1 to 512, M at most 4096, K from 1 to 65536\n",
-            );
-        }
-        Printed::NoNumbers => {
-            io::write_all(
-                libc::STDERR_FILENO,
-                b"usage: loader SEED N M K, four numbers below 4294967296\n",
-            );
-        }
+        Printed::Failed => output::fail(rt, "the load is not whole", failure),
+        Printed::OutOfRange => output::tell(
+            rt,
+            "refused 10: N is from 1 to 512, M at most 4096, K from 1 to 65536",
+        ),
+        Printed::NoNumbers => output::tell(
+            rt,
+            "usage: loader SEED N M K, four numbers below 4294967296",
+        ),
     }
 }
 
 // The test board that the arguments ask for, by way of buffers that are lent whole.
 fn print_asked_for(
+    rt: &HostRuntime,
+    failure: &mut i32,
     seed: &mut [u8],
     n: &mut [u8],
     m: &mut [u8],
@@ -121,20 +137,30 @@ fn print_asked_for(
     ensures words_heard { WordsHeard seed.new n.new m.new k.new result.told }
     ensures test_board_ran { TestBoardRan (asked_by result.told) out.new handed.new result.printed }
 {
-    let told = read_words(seed, n, m, k);
+    let told = read_words(rt, seed, n, m, k);
     let words = asked_by(told);
-    let printed = print_words(words, out, handed);
+    let printed = print_words(rt, failure, words, out, handed);
     Run { told, printed }
 }
 
-fn main() {
+fn main(rt: HostRuntime) {
     let mut seed = [0u8; 32];
     let mut n = [0u8; 32];
     let mut m = [0u8; 32];
     let mut k = [0u8; 32];
     let mut out = [0u8; BYTES];
     let mut handed: usize = 0;
-    let run = print_asked_for(&mut seed, &mut n, &mut m, &mut k, &mut out, &mut handed);
+    let mut failure: i32 = 0;
+    let run = print_asked_for(
+        &rt,
+        &mut failure,
+        &mut seed,
+        &mut n,
+        &mut m,
+        &mut k,
+        &mut out,
+        &mut handed,
+    );
     let printed = run.printed;
-    tell(printed);
+    tell(&rt, printed, failure);
 }

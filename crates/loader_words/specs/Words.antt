@@ -1,8 +1,8 @@
 -- Numbers as words, and the four that the program is told.
 use Rattle.base_lists.specs.Kit.{◌≡◌, Bool, cond, ◌&&◌, List, [], ◌∷◌, ℕ, ◌≤◌, ◌+◌, ◌-◌, ◌*◌, ◌^◌, eqb, ltb, leb, length, take}
-use Rattle.std.specs.Prelude.{ℤ}
+use Rattle.std.specs.Prelude.{Option, Some, None}
+use Rattle.std.specs.declared.env.FillError.{FillError}
 use Rattle.base_lists.specs.List.{all}
-use Rattle.output.specs.Writing.{is_error}
 use Rattle.loader_words.specs.declared.Word.{Word}
 use Rattle.loader_words.specs.declared.Word.TheVariants.{Number, NoNumber}
 use Rattle.loader_words.specs.declared.Argument.{Argument}
@@ -25,9 +25,10 @@ is_number word = leb 1 (length word) && (all is_digit word && ltb (value 0 word)
 unfoldable pub word_of : List ℕ → Word
 word_of word = cond (is_number word) (Number (value 0 word)) NoNumber
 
--- the number that an argument is: C's errno is 0 where it is there and whole
-unfoldable pub heard_of : ℤ → List ℕ → Word
-heard_of error word = cond (is_error 0 error) (word_of word) NoNumber
+-- the number that an argument is: the system gives no error where it is there and whole
+unfoldable pub heard_of : Option FillError → List ℕ → Word
+heard_of None word = word_of word
+heard_of (Some error) word = NoNumber
 
 -- An argument as it was heard: asked for by this index, and the number that the bytes are that the system says it put at the front of the buffer.
 pub record Heard (index : ℕ) (buf : List ℕ) (a : Argument) : Type 0 where

@@ -5,18 +5,21 @@
 ghost use Rattle.std.specs.Prelude.{◌≡◌, eqb};
 ghost use Rattle.loader_words.specs.Words.{word_of, is_digit, heard_of, Heard, WordsHeard, asked_by};
 
+use std::env::FillError;
+use std::rt::Env;
+
 #[derive(Clone, Copy)]
 pub enum Word {
     Number(u32),
     NoNumber,
 }
 
-// An argument: its index, what the system answered when it was asked for, C's errno and a length, and the number that
-// it is.
+// An argument: its index, what the system answered when it was asked for, an error or else a length, and the number
+// that it is.
 #[derive(Clone, Copy)]
 pub struct Argument {
     index: usize,
-    error: i32,
+    error: Option<FillError>,
     size: usize,
     word: Word,
 }
@@ -40,6 +43,7 @@ pub struct Asked {
     pub k: Word,
 }
 
+#[tactic(auto, unfolding(crate::specs::Words::is_digit))]
 fn is_digit(byte: u8) -> bool
     ensures { result ≡ is_digit byte }
 {
@@ -72,22 +76,26 @@ fn number(word: &[u8]) -> Word
     Word::Number(value as u32)
 }
 
-// The number that an argument is, from what the system answered when it was asked for: 0 where the word is whole.
-fn number_of(error: i32, word: &[u8]) -> Word
+// The number that an argument is, from what the system answered when it was asked for: no error where the word is
+// whole.
+#[tactic(auto, unfolding(crate::specs::Words::heard_of))]
+fn number_of(error: Option<FillError>, word: &[u8]) -> Word
     ensures { result ≡ heard_of error word.now }
 {
-    if error != 0 {
+    if error.is_some() {
         return Word::NoNumber;
     }
     number(word)
 }
 
 // Asks the system for an argument by its index, into a lent buffer, and hears what number it is.
-fn hear(index: usize, buf: &mut [u8]) -> Argument
+fn hear(rt: &HostRuntime, index: usize, buf: &mut [u8]) -> Argument
     ensures { Heard index buf.new result }
 {
-    let size = os::arg(index, buf);
-    let error = os::errno();
+    let (error, size) = match rt.arg(index, buf) {
+        Ok(size) => (None, size),
+        Err(error) => (Some(error), 0),
+    };
     let word = number_of(error, &buf[..size]);
     Argument {
         index,
@@ -105,14 +113,20 @@ fn are_four(arguments: usize) -> bool
 }
 
 // The words that the program was told, each read into a buffer of its own: none are numbers where they are not four.
-pub fn read_words(seed: &mut [u8], n: &mut [u8], m: &mut [u8], k: &mut [u8]) -> Told
+pub fn read_words(
+    rt: &HostRuntime,
+    seed: &mut [u8],
+    n: &mut [u8],
+    m: &mut [u8],
+    k: &mut [u8],
+) -> Told
     ensures { WordsHeard seed.new n.new m.new k.new result }
 {
-    let count = os::arg_count();
-    let first = hear(1, seed);
-    let second = hear(2, n);
-    let third = hear(3, m);
-    let fourth = hear(4, k);
+    let count = input::arg_count(rt);
+    let first = hear(rt, 1, seed);
+    let second = hear(rt, 2, n);
+    let third = hear(rt, 3, m);
+    let fourth = hear(rt, 4, k);
     Told {
         count,
         seed: first,
@@ -123,6 +137,7 @@ pub fn read_words(seed: &mut [u8], n: &mut [u8], m: &mut [u8], k: &mut [u8]) -> 
 }
 
 // The four words that ask for a test board: none are numbers where they are not four.
+#[tactic(auto, unfolding(crate::specs::Words::asked_by))]
 pub fn asked_by(told: Told) -> Asked
     ensures { result ≡ asked_by told }
 {

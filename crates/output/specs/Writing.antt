@@ -1,5 +1,8 @@
 -- What the contracts of writing cite.
 use Rattle.std.specs.Prelude.{Bool, false, ◌||◌, List, ◌≡◌, ℕ, eqb, ℤ, pos, negsuc, length}
+use Rattle.std.specs.Prelude.{Option, Some, None}
+use Rattle.std.specs.IoError.{raw_os_error}
+use Rattle.std.specs.declared.io.Error.{Error}
 use Rattle.output.specs.declared.Output.{Output}
 use Rattle.output.specs.declared.Output.TheVariants as output
 
@@ -16,3 +19,11 @@ tried_again error = is_error 4 error || is_error 11 error
 unfoldable pub All : List ℕ → Output → Type 0
 All bytes (output.Written taken) = taken ≡ length bytes
 All bytes output.Failed = Unit {0}
+
+-- C's errno of an error, 0 where it is not the system's
+abbrev pub number_of : Error → ℤ
+number_of error = or_none (raw_os_error error)
+  where
+    or_none : Option ℤ → ℤ
+    or_none (Some number) = number
+    or_none None = pos 0

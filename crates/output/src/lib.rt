@@ -3,8 +3,12 @@
 // written: what comes out is always a front of the bytes.
 #![tactic(auto)]
 
-ghost use Rattle.std.specs.Prelude.{true, cond, ◌≡◌, ◌≤◌, pos, length, drop};
-ghost use Rattle.output.specs.Writing.{tried_again, All};
+ghost use Rattle.std.specs.Prelude.{true, cond, ◌≡◌, ◌≤◌, pos, Some, length, drop};
+ghost use Rattle.output.specs.Writing.{tried_again, number_of, All};
+
+use std::io::Error;
+use std::os::fd::AsRawFd;
+use std::thread;
 
 // What came of the writing: as many bytes were taken as there are, or a write failed or could not be completed.
 #[derive(Clone, Copy)]
@@ -17,56 +21,79 @@ pub enum Output {
 // nothing here can wait for it. That is some seconds.
 const TRIES: u32 = 10000000;
 
+// C's errno after a write that was interrupted, and after one to an output that does not block and was full.
+const EINTR: i32 = 4;
+
+const EAGAIN: i32 = 11;
+
 // Whether a write that took nothing is tried again: it was interrupted, or the output does not block and was full.
+#[tactic(auto, unfolding(crate::specs::Writing::tried_again, crate::specs::Writing::is_error))]
 fn again(error: i32) -> bool
     ensures { result ≡ tried_again error }
 {
-    if error == libc::EINTR {
+    if error == EINTR {
         return true;
     }
-    if error == libc::EAGAIN {
+    if error == EAGAIN {
         return true;
     }
     false
+}
+
+// C's errno of an error, 0 where it is not the system's.
+pub fn number_of(error: &Error) -> i32
+    ensures { result ≡ number_of error.now }
+{
+    match error.raw_os_error() {
+        Some(number) => number,
+        None => 0,
+    }
 }
 
 // Lets others run before a write is tried again.
 fn pause(error: i32)
     requires { tried_again error ≡ true }
 {
-    libc::sched_yield();
+    thread::yield_now();
 }
 
 // Hands the bytes after the first `done` to standard output until it takes some, and answers how many, 0 where it
-// fails.
-fn take_some(fd: i32, bytes: &[u8], done: usize, rest: &[u8]) -> usize
-    requires { (fd ≡ pos 1) × (rest.now ≡ drop done bytes.now) }
+// fails. The number of the last error is noted.
+fn take_some<W: Print + AsRawFd>(
+    out: &W,
+    failure: &mut i32,
+    bytes: &[u8],
+    done: usize,
+    rest: &[u8],
+) -> usize
+    requires { (W.raw_fd out.now ≡ Some (pos 1)) × (rest.now ≡ drop done bytes.now) }
     ensures { result ≤ length rest.now }
 {
-    let mut tries: u32 = 0;
-    while tries < TRIES {
-        let got = libc::write(fd, rest);
-        let error = os::errno();
-        let taken = io::count(got, rest);
-        if taken > 0 {
-            return taken;
+    for _ in 0..TRIES {
+        match out.write_some(rest) {
+            Ok(taken) => return taken,
+            Err(error) => {
+                let number = number_of(&error);
+                *failure = number;
+                if !again(number) {
+                    return 0;
+                }
+                pause(number);
+            }
         }
-        if !again(error) {
-            return 0;
-        }
-        pause(error);
-        tries += 1;
     }
     0
 }
 
-// Writes all of the bytes to standard output, or stops at the first write that fails.
-pub fn write_whole(bytes: &[u8]) -> Output
+// Writes all of the bytes to standard output, or stops at the first write that fails, whose error is noted by its
+// number.
+#[tactic(auto, unfolding(crate::specs::Writing::All))]
+pub fn write_whole(rt: &HostRuntime, failure: &mut i32, bytes: &[u8]) -> Output
     ensures { All bytes.now result }
 {
     let mut done: usize = 0;
     while done < bytes.len() {
-        let taken = take_some(libc::STDOUT_FILENO, bytes, done, &bytes[done..]);
+        let taken = take_some(&rt.stdout(), failure, bytes, done, &bytes[done..]);
         if taken == 0 {
             return Output::Failed;
         }
@@ -77,14 +104,39 @@ pub fn write_whole(bytes: &[u8]) -> Output
 
 // Hands bytes to standard output, to which nothing was handed before, and notes how many there are. The answer says
 // whether they were taken.
-pub fn hand(handed: &mut usize, bytes: &[u8]) -> bool
+#[tactic(auto, unfolding(crate::specs::Writing::All))]
+pub fn hand(rt: &HostRuntime, failure: &mut i32, handed: &mut usize, bytes: &[u8]) -> bool
     requires { handed.old ≡ 0 }
     ensures { handed.new ≡ cond result (length bytes.now) 0 }
 {
-    let answer = write_whole(bytes);
+    let answer = write_whole(rt, failure, bytes);
     let Output::Written(size) = answer else {
         return false;
     };
     *handed = size;
     true
+}
+
+// Tells a line on standard error. Where that fails there is nowhere to tell it.
+pub fn tell(rt: &HostRuntime, line: &str) {
+    let _told = eprintln!(rt; "{line}");
+}
+
+// C's words for an error: those that it displays, ahead of its number.
+fn words_of(text: &str) -> &str {
+    match text.split_once(" (os error ") {
+        Some((words, _)) => words,
+        None => text,
+    }
+}
+
+// Tells on standard error what failed, and C's words for the number of the error.
+pub fn fail(rt: &HostRuntime, what: &str, failure: i32) {
+    let error = Error::from_raw_os_error(failure);
+    let Ok(text) = format!(in rt.alloc(); "{error}") else {
+        tell(rt, what);
+        return;
+    };
+    let words = words_of(text.as_str());
+    let _told = eprintln!(rt; "{what}: {words}");
 }

@@ -1,11 +1,10 @@
 -- The numbers of a shelf and their text. Assumes nothing.
 use mathlib.Core.Bool.{Bool, true, false, cond}
-use mathlib.Core.List.{List, [], ◌∷◌}
+use Rattle.std.proofs.Common.{List, [], ◌∷◌}
 use mathlib.Core.Path.{◌≡◌, sym, ap, ◌∙◌}
 use Prim.Native.Nat.{ℕ, ◌*◌, ◌≤◌}
 use native.Mathlib.Omega.{arith}
-use lib.ListN.{length, take, drop, length-append}
-use lib.Seq.{take_all, take_at}
+use Rattle.std.proofs.Common.{length, take, drop, length-append, length-take-le, take_all, take_at}
 use Rattle.base_text.specs.Text.{Put, Fits}
 use Rattle.base_text.proofs.Text.{put_whole}
 use Rattle.file_format.specs.Reading.{filled}
@@ -20,10 +19,12 @@ use Rattle.call_shelf.specs.Text.{shelf_text}
 use Rattle.call_shelf.proofs.Text.{length-text}
 use Rattle.call_shelf.specs.declared.ShelfAnswer.{ShelfAnswer}
 use Rattle.call_shelf.specs.declared.ShelfAnswer.TheVariants.{Ordered}
+use Rattle.shelf_files.specs.declared.Taken.{Taken}
 use Rattle.shelf_files.specs.declared.Taken.TheVariants as taken
 use Rattle.shelf_files.specs.Reading.{shelf_end}
-use Rattle.shelf.specs.Printing.{printed_of, ShelfHanded, shelf_ended, ShelfRan}
-use Rattle.call_shelf.specs.Shelf.{file_at, accepted_in, shelf_of, shelf_reply, ShelfOutcome, shelving_of, shelving}
+use Rattle.shelf_files.proofs.Reading.{few-files}
+use Rattle.shelf.specs.Printing.{shelf_text_of, printed_at, printed_of, ShelfHanded, shelf_ended, ShelfRan}
+use Rattle.call_shelf.specs.Shelf.{most_files, file_at, accepted_in, shelf_of, shelf_reply, ShelfOutcome, shelving_of, shelving}
 
 -- as many numbers as files, at most
 pub ordered-few : (bytes lengths : List ℕ) → length (shelf_of (cut_into bytes lengths)) ≤ length lengths
@@ -64,6 +65,34 @@ module _ {out after text : List ℕ} {size : ℕ} (p : Put out 0 text after size
 
   pub text-size : size ≤ length after
   text-size = omega (arith, p.end, ap length (put_whole p f), length-append text (drop (length text) out))
+
+-- ---- the call's answer, on the files that were read
+
+module _ (bytes notes order after : List ℕ) (count ordered : ℕ) (answer : ShelfAnswer) (n : length notes ≡ most_files) (e : shelf_end notes ≡ taken.Files count)
+    (a : record { reply = shelf_reply answer; order = after } ≡ shelving bytes (take count notes) order) (is : answer ≡ Ordered ordered) where
+  sixteen : length (take count notes) ≤ 16
+  sixteen = let read = few-files notes count e in omega (arith, n, length-take-le count notes read)
+
+  -- the numbers at the front of the table are the shelf's
+  pub numbers : take ordered after ≡ shelf_of (cut_into bytes (take count notes))
+  numbers = (ordered-numbers bytes (take count notes) order after answer sixteen a ordered is).1
+
+  few : ordered ≡ length (shelf_of (cut_into bytes (take count notes)))
+  few = (ordered-numbers bytes (take count notes) order after answer sixteen a ordered is).0
+
+  pub numbers-size : length (take ordered after) ≡ ordered
+  numbers-size = ap length numbers ∙ sym few
+
+  pub numbers-room : most_files ≤ length order → length after ≡ length order → ordered ≤ length after
+  numbers-room h l = omega (arith, l, few, ordered-few bytes (take count notes), sixteen)
+
+  pub lines_fit : (out : List ℕ) → 3 * most_files ≤ length out → Fits out 0 (shelf_text (take ordered after))
+  lines_fit out h = text-room out (take ordered after) (omega (arith, numbers-size, few, ordered-few bytes (take count notes), sixteen))
+
+  -- the lines of these numbers are what is printed
+  pub lines-printed : (lines : List ℕ) → lines ≡ shelf_text (take ordered after) → lines ≡ printed_of bytes notes
+  unfolding shelf_text_of printed_at printed_of
+  lines-printed lines l = l ∙ ap shelf_text numbers ∙ ap (λ (t : Taken). printed_at t bytes notes) (sym e)
 
 -- ---- what is handed over
 

@@ -25,16 +25,25 @@ enum End {
 
 // Hands the lines to standard output, which are the text of the files that were read, and notes how many bytes they
 // are. The answer says whether they were taken. Nothing was handed over before.
-fn hand(bytes: &[u8], notes: &[u32], handed: &mut usize, text: &[u8]) -> bool
+fn hand(
+    rt: &HostRuntime,
+    failure: &mut i32,
+    bytes: &[u8],
+    notes: &[u32],
+    handed: &mut usize,
+    text: &[u8],
+) -> bool
     requires { (handed.old ≡ 0) × (text.now ≡ printed_of bytes.now notes.now) }
     ensures { handed.new ≡ cond result (length text.now) 0 }
 {
-    output::hand(handed, text)
+    output::hand(rt, failure, handed, text)
 }
 
 // Puts the files in order and hands their lines on, by way of a table for their numbers and a buffer for the lines. The
 // answer says whether they were taken whole.
 fn print_shelf(
+    rt: &HostRuntime,
+    failure: &mut i32,
     bytes: &[u8],
     notes: &[u32],
     count: usize,
@@ -51,22 +60,24 @@ fn print_shelf(
         return false;
     };
     let size = call_shelf::lines::put_numbers(&order[..ordered], out);
-    hand(bytes, notes, handed, &out[..size])
+    hand(rt, failure, bytes, notes, handed, &out[..size])
 }
 
 // How a run ends in which so many files were read, and tells where their lines are not whole.
-fn ended(count: usize, whole: bool) -> End
+#[tactic(auto, unfolding(crate::specs::Printing::shelf_ended))]
+fn ended(rt: &HostRuntime, failure: i32, count: usize, whole: bool) -> End
     ensures { result ≡ shelf_ended count whole }
 {
     if whole {
         return End::Whole(count);
     }
-    os::fail(b"the list is not whole");
+    output::fail(rt, "the list is not whole", failure);
     End::Broken(count)
 }
 
 // Reads the shelf and prints its order, by way of tables that are lent whole.
 fn shelve(
+    rt: &HostRuntime,
     bytes: &mut [u8],
     notes: &mut [u32],
     order: &mut [u8],
@@ -77,26 +88,30 @@ fn shelve(
     requires most_files_in_bounds { (most_files ≤ length order.old) × (3 * most_files ≤ length out.old) × (handed.old ≡ 0) }
     ensures { ShelfRan bytes.new notes.new out.new handed.new result }
 {
-    let taken = read_all(bytes, notes);
+    let taken = read_all(rt, bytes, notes);
     match taken {
-        Taken::Files(count) => ended(count, print_shelf(bytes, notes, count, order, out, handed)),
+        Taken::Files(count) => {
+            let mut failure: i32 = 0;
+            let whole = print_shelf(rt, &mut failure, bytes, notes, count, order, out, handed);
+            ended(rt, failure, count, whole)
+        }
         Taken::Unreadable(i) => {
-            cannot_read(i);
+            cannot_read(rt, i);
             End::NoFile(i)
         }
     }
 }
 
-fn usage() {
-    io::write_all(
-        libc::STDERR_FILENO,
-        b"shelf takes no argument: it orders p00.cir to p15.cir in the folder that it is run in\n",
+fn usage(rt: &HostRuntime) {
+    output::tell(
+        rt,
+        "shelf takes no argument: it orders p00.cir to p15.cir in the folder that it is run in",
     );
 }
 
-fn main() {
-    if input::is_told(os::arg_count()) {
-        usage();
+fn main(rt: HostRuntime) {
+    if input::is_told(input::arg_count(&rt)) {
+        usage(&rt);
         return;
     }
     let mut bytes = [0u8; SHELF_BYTES];
@@ -104,5 +119,12 @@ fn main() {
     let mut order = [0u8; FILES];
     let mut out = [0u8; 3 * FILES];
     let mut handed: usize = 0;
-    shelve(&mut bytes, &mut notes, &mut order, &mut out, &mut handed);
+    shelve(
+        &rt,
+        &mut bytes,
+        &mut notes,
+        &mut order,
+        &mut out,
+        &mut handed,
+    );
 }

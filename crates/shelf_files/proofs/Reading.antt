@@ -1,13 +1,8 @@
 -- What was read and noted, file by file, and how the reading ends. Assumes nothing.
-use mathlib.Core.List.{List, [], ◌∷◌, ◌++◌, append-nil, map-append}
-use mathlib.Core.Path.{◌≡◌, refl, sym, ap, ap₂, subst, ◌∙◌}
-use Prim.Native.Nat.{ℕ, suc, ◌+◌, ◌<◌, ◌≤◌}
-use native.Mathlib.Nat.{le_of_eq, zero-add}
-use native.Mathlib.Numerals.{add-one}
-use native.Mathlib.Omega.{arith}
-use borrow.Author.Tests.{ne_eqb}
-use lib.ListN.{length, take, drop, set, length-map}
-use lib.Seq.{length-take-le, take_all, take-suc-set, set_split}
+use Rattle.std.proofs.Common.{List, [], ◌∷◌, ◌++◌, ◌≡◌, refl, sym, ap, subst, ℕ, zero, suc, ◌+◌, ◌/◌, ◌%◌, ◌<◌, ◌≤◌, le_of_eq, zero-add, add-one, arith, ne_eqb, length, take, drop, set, length-take-le, take_all, take-suc-set}
+use Rattle.std.proofs.Math.Path.{ap₂, ◌∙◌}
+use mathlib.Core.List.{append-nil, map-append}
+use Rattle.std.proofs.lemmas.List.{length-map, set_split}
 use Rattle.input.specs.declared.FileFound.{FileFound}
 use Rattle.input.specs.declared.FileFound.TheVariants as found
 use Rattle.shelf_files.specs.declared.Next.{Next}
@@ -15,7 +10,10 @@ use Rattle.shelf_files.specs.declared.Next.TheVariants as next
 use Rattle.shelf_files.specs.declared.Taken.{Taken}
 use Rattle.shelf_files.specs.declared.Taken.TheVariants as taken
 use Rattle.input.specs.Reading.{Within}
-use Rattle.shelf_files.specs.Reading.{most_bytes, noted, note_means, answers, next_after, going_on, standing, FileReached, end_from, shelf_end}
+use Rattle.std.specs.Str.{IsAscii, IsUtf8}
+use Rattle.std.proofs.lemmas.Str.{IsUtf8-from_ascii}
+use Rattle.std.proofs.lemmas.Str.Ascii.{IsAscii-nil}
+use Rattle.shelf_files.specs.Reading.{shelf_name_of, most_bytes, noted, note_means, answers, next_after, going_on, standing, FileReached, end_from, shelf_end}
 
 -- ---- the notes
 
@@ -25,6 +23,32 @@ unfolding note_means
 answered-noted (found.Bytes size) w = rw (ne_eqb size 65536 (λ e. omega (arith, e)), ne_eqb size 65537 (λ e. omega (arith, e))) refl
 answered-noted found.Absent w = refl
 answered-noted found.Unreadable w = refl
+
+-- where less has room, more has
+pub within_more : (x : FileFound) (a b : ℕ) → a ≤ b → Within a x → Within b x
+within_more (found.Bytes size) a b h w = omega arith
+within_more found.Absent a b h w = tt
+within_more found.Unreadable a b h w = tt
+
+-- ---- the names
+
+ascii_more : (b : ℕ) (bs : List ℕ) → b < 128 → IsAscii bs → IsAscii (b ∷ bs)
+ascii_more b bs h t zero = h
+ascii_more b bs h t (suc i) = t i
+
+-- a name is text
+pub name_ascii : (i : ℕ) → i < 100 → IsAscii (shelf_name_of i)
+name_ascii i h =
+    ascii_more 112 ((48 + i / 10) ∷ (48 + i % 10) ∷ 46 ∷ 99 ∷ 105 ∷ 114 ∷ []) (omega arith)
+    (ascii_more (48 + i / 10) ((48 + i % 10) ∷ 46 ∷ 99 ∷ 105 ∷ 114 ∷ []) (omega arith)
+    (ascii_more (48 + i % 10) (46 ∷ 99 ∷ 105 ∷ 114 ∷ []) (omega arith)
+    (ascii_more 46 (99 ∷ 105 ∷ 114 ∷ []) (omega arith)
+    (ascii_more 99 (105 ∷ 114 ∷ []) (omega arith)
+    (ascii_more 105 (114 ∷ []) (omega arith) (ascii_more 114 [] (omega arith) IsAscii-nil))))))
+
+-- so it is read as it stands
+pub text_utf8 : (bytes : List ℕ) → IsAscii bytes → IsUtf8 bytes
+text_utf8 bytes h = IsUtf8-from_ascii bytes h
 
 -- ---- how it goes on
 

@@ -5,11 +5,13 @@
 ghost use Rattle.std.specs.Prelude.{◌≡◌, ◌+◌, ◌*◌, ◌<◌, ◌≤◌, length, take, set};
 ghost use Rattle.call_shelf.specs.Shelf.{most_files};
 ghost use Rattle.input.specs.Reading.{Within};
+ghost use Rattle.std.specs.Str.{IsAscii};
 ghost use Rattle.shelf_files.specs.Reading.{shelf_name_of, most_bytes, noted, next_after, FileReached, shelf_end};
 
 use call_shelf::FILES;
 use file_format::Pattern;
 use input::FileFound;
+use std::str;
 
 // A byte more than the longest second-edition pattern that is accepted: so that a longer file is refused by its length.
 const FILE_BYTES: usize = 4 + 4 * Pattern::MAX_NODES + 4 * Pattern::MAX_LINKS + 1;
@@ -53,21 +55,31 @@ fn name_of(i: usize) -> [u8; 7]
     ]
 }
 
+// A name as text.
+#[tactic(auto, using(crate::proofs::Reading::text_utf8))]
+fn text_of(name: &[u8]) -> &str
+    requires { IsAscii name.now }
+    ensures { result.now ≡ name.now }
+{
+    str::from_utf8(name).unwrap()
+}
+
 // The bytes of the i-th file, by its name.
-fn load_named(i: usize, name: &[u8], buf: &mut [u8]) -> FileFound
+fn load_named(rt: &HostRuntime, i: usize, name: &str, buf: &mut [u8]) -> FileFound
     requires { name.now ≡ shelf_name_of i }
     ensures { Within (length buf.new) result }
 {
-    input::load(name, buf)
+    input::load(rt, name, buf)
 }
 
 // The bytes of the i-th file.
-fn load(i: usize, buf: &mut [u8]) -> FileFound
+#[tactic(auto, using(crate::proofs::Reading::name_ascii))]
+fn load(rt: &HostRuntime, i: usize, buf: &mut [u8]) -> FileFound
     requires { i < 100 }
     ensures { Within (length buf.new) result }
 {
     let name = name_of(i);
-    load_named(i, &name, buf)
+    load_named(rt, i, text_of(&name), buf)
 }
 
 // What is noted of a file.
@@ -84,14 +96,15 @@ fn note_file(found: FileFound) -> u32
 
 // Reads the i-th file to a place of the bytes, behind those of the files before it, and notes what became of it. All of
 // those are there, and their bytes stay.
-fn read_one(i: usize, at: usize, bytes: &mut [u8], notes: &mut [u32]) -> FileFound
+#[tactic(auto, using(crate::proofs::Reading::within_more))]
+fn read_one(rt: &HostRuntime, i: usize, at: usize, bytes: &mut [u8], notes: &mut [u32]) -> FileFound
     requires i_in_bounds { (i < length notes.old) × (i < 100) × (at ≤ 65536) × (at + most_bytes ≤ length bytes.old) }
     requires file_reached { FileReached notes.old i at }
     ensures within { Within most_bytes result × (notes.new ≡ set notes.old i (noted result)) }
     ensures bytes_unchanged { take at bytes.new ≡ take at bytes.old }
 {
     let end = at + FILE_BYTES;
-    let found = load(i, &mut bytes[at..end]);
+    let found = load(rt, i, &mut bytes[at..end]);
     notes[i] = note_file(found);
     found
 }
@@ -109,14 +122,14 @@ fn after(found: FileFound, at: usize) -> Next
 }
 
 // Reads the files one after another, the bytes of each behind those of the one before, and notes what became of each.
-pub fn read_all(bytes: &mut [u8], notes: &mut [u32]) -> Taken
+pub fn read_all(rt: &HostRuntime, bytes: &mut [u8], notes: &mut [u32]) -> Taken
     requires { (most_files * most_bytes ≤ length bytes.old) × (length notes.old ≡ most_files) }
     ensures { result ≡ shelf_end notes.new }
 {
     let mut at: usize = 0;
     let mut i: usize = 0;
     while i < FILES {
-        let found = read_one(i, at, bytes, notes);
+        let found = read_one(rt, i, at, bytes, notes);
         let next = after(found, at);
         match next {
             Next::Further(past) => {
@@ -131,9 +144,10 @@ pub fn read_all(bytes: &mut [u8], notes: &mut [u32]) -> Taken
 }
 
 // Tells on standard error that the i-th file cannot be read.
-pub fn cannot_read(i: usize)
+#[tactic(auto, using(crate::proofs::Reading::name_ascii))]
+pub fn cannot_read(rt: &HostRuntime, i: usize)
     requires { i < 100 }
 {
     let name = name_of(i);
-    input::cannot_read(&name);
+    input::cannot_read(rt, text_of(&name));
 }

@@ -1,0 +1,9 @@
+-- No more bytes were taken than there are, and each turn takes some.
+use Rattle.std.proofs.Common.{length, ◌-◌, ◌≤◌}
+use Rattle.output.proofs.write_whole.Given as goal
+
+abbrev pub invariant-loop-done : goal.invariant-loop-done
+invariant-loop-done l = l.done ≤ length l.bytes
+
+abbrev pub decreases-loop-done : goal.decreases-loop-done
+decreases-loop-done l = length l.bytes - l.done
