@@ -6,9 +6,9 @@ LINES = {"src": ".rt", "specs": ".antt", "proofs": ".antt"}
 
 
 def listed(root: Path) -> dict[str, list[str]]:
-    """The crates that crates.txt lists, in its order, and what each depends on."""
+    """The crates that crates.txt lists, in its order, and what each depends on; what stands after a name, as staticlib, is left out."""
     lines = (line.split("#")[0] for line in (root / "crates.txt").read_text().splitlines())
-    return {name.strip(): deps.split() for name, colon, deps in (line.partition(":") for line in lines) if colon}
+    return {name.split()[0]: deps.split() for name, colon, deps in (line.partition(":") for line in lines) if colon}
 
 
 def texts(root: Path, part: str) -> list[str]:

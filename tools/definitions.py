@@ -43,7 +43,7 @@ def parsed(text: str) -> Source:
     """A file's definitions, without comments, and the names that it imports."""
     source, name = Source({}, {}, {}), ""
     for line in text.split("\n"):
-        use = re.match(r"(?:unfoldable )?(?:pub )?use Rattle·(\w+)(?:·specs)?\.specs\.(\w+)\.\{(.*)\}$", line)
+        use = re.match(r"(?:unfoldable )?(?:pub )?use Rattle\.(\w+)\.specs\.(\w+)\.\{(.*)\}$", line)
         if use:
             source.uses.update({word: Name(use[1], use[2], word) for word in use[3].split(", ")})
         if not line.strip() or re.match(r"\s*--|(unfoldable )?(pub )?use |infix", line):
@@ -68,9 +68,9 @@ def source(crate: str, file: str) -> Source:
 def words(name: str, lines: list[str]) -> set[str]:
     """The words of a definition that may name others."""
     text = "\n".join(lines)
-    text = re.sub(r"(?<=\s)\.\w+", " ", text)  # projections,
+    text = re.sub(r"(?<=\S)\.\w+", " ", text)  # projections,
     text = re.sub(r"pub [^\s:]+ :", " ", text)  # names of fields,
-    text = re.sub(r"[\w′]+ = ", " ", text)  # also where they are given,
+    text = re.sub(r"[\w']+ = ", " ", text)  # also where they are given,
     text = re.sub(r"[({]([^(){}:]*) : ", "( ", text)  # and bound names
     found = set(re.findall(r"[^\s(){};,.λ]+", text))
     for line in lines:  # and parameters
@@ -95,8 +95,8 @@ def needed(name: Name) -> Iterator[Name]:
     for word in words(name.name, here.lines[name.name]):
         if word in here.lines or word in here.cases:
             yield name._replace(name=word)
-        elif word in here.uses or f"_{word}_" in here.uses:
-            yield here.uses.get(word) or here.uses[f"_{word}_"]
+        elif word in here.uses or f"◌{word}◌" in here.uses:
+            yield here.uses.get(word) or here.uses[f"◌{word}◌"]
 
 
 def follow(roots: Iterable[Name], found: Found, held: set[Name], stops: set[str]) -> None:

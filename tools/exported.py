@@ -3,9 +3,9 @@ import re
 from functools import cache
 from typing import NamedTuple
 
-from named import ROOT, content, functions
+from named import ROOT, clauses, content, functions
 
-USED = re.compile(r"^ghost use Rattle·(\w+)(?:·specs)?\.specs\.(\w+)\.\{(.*)\};$", re.M)
+USED = re.compile(r"^ghost use Rattle\.(\w+)\.specs\.(\w+)\.\{(.*)\};$", re.M)
 
 
 class Exported(NamedTuple):
@@ -17,11 +17,11 @@ class Exported(NamedTuple):
 
     def asks(self) -> bool:
         """Whether it has a `requires`."""
-        return re.search(r"^\s*requires \{", self.head, re.M) is not None
+        return bool(clauses(self.head, "requires"))
 
     def promises(self) -> bool:
         """Whether it has an `ensures`."""
-        return re.search(r"^\s*ensures \{", self.head, re.M) is not None
+        return bool(clauses(self.head, "ensures"))
 
 
 @cache
@@ -34,9 +34,8 @@ def all_exported() -> list[Exported]:
         for part in functions(content(path)):
             if start := re.match(r' *pub extern "C" fn (\w+)', part):
                 head = re.split(r"^\{", part, maxsplit=1, flags=re.M)[0]
-                ensured = " ".join(re.findall(r"⌜(.*?)⌝", head, re.S))
                 found: dict[str, list[str]] = {}
-                for word in dict.fromkeys(re.findall(r"[\w-]+", ensured)):
+                for word in dict.fromkeys(re.findall(r"(?<!\.)\b[\w-]+", " ".join(clauses(head, "ensures")))):
                     if word in homes:
                         found.setdefault(homes[word], []).append(word)
                 made.append(Exported(start[1], head, found))

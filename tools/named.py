@@ -52,9 +52,21 @@ def bodies(path: str) -> list[str]:
     return [part for text in sources.values() for part in functions(text) if re.match(rf"[^(]*\bfn {name}\b", part)]
 
 
+def clauses(text: str, *kinds: str) -> list[str]:
+    """What stands between the braces of a text's clauses of some kinds, with a name or without: all of them where no kind is named."""
+    found = []
+    for start in re.finditer(rf"^\s*(?:{'|'.join(kinds or ('requires', 'ensures'))})\*?(?: \w+)? \{{", text, re.M):
+        depth, end = 1, start.end()
+        while depth and end < len(text):
+            depth += (text[end] == "{") - (text[end] == "}")
+            end += 1
+        found.append(text[start.end() : end - 1])
+    return found
+
+
 def has_contract(body: str) -> bool:
     """Whether a function has an `ensures` or a `requires`."""
-    return re.search(r"^\s*(ensures|requires) \{", body, re.M) is not None
+    return bool(clauses(body))
 
 
 @cache

@@ -8,6 +8,7 @@ from pathlib import Path
 import definitions
 import exported
 import named
+from counted import listed as listed_crates
 from entries import FOLDER, Block, blocks, entries, filled, laid_out, numbers_of, printed, references, wrapped
 
 ROOT = named.ROOT
@@ -106,9 +107,9 @@ def figures() -> dict[str, str]:
     specs = [definitions.source(path.parts[-3], path.stem).lines for path in ROOT.glob("crates/*/specs/*.antt")]
     demands = definitions.pages()[0][1]
     counted = {
-        "crates": len(re.findall(r"^\w+:", named.content(ROOT / "crates.txt"), re.M)),
+        "crates": len(listed_crates(ROOT)),
         "functions": len(functions),
-        "contracts": sum(bool(re.search(r"^\s*ensures \{", part, re.M)) for part in functions),
+        "contracts": sum(bool(named.clauses(part, "ensures")) for part in functions),
         "exported": len(exported.all_exported()),
         "definitions": sum(len(lines) for lines in specs),
         "definition_lines": sum(len(line) for lines in specs for line in lines.values()),
