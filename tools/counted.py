@@ -5,10 +5,20 @@ from pathlib import Path
 LINES = {"src": ".rt", "specs": ".antt", "proofs": ".antt"}
 
 
-def listed(root: Path) -> dict[str, list[str]]:
-    """The crates that crates.txt lists, in its order, and what each depends on; what stands after a name, as staticlib, is left out."""
+def rows(root: Path) -> list[tuple[str, str]]:
+    """The lines of crates.txt: a crate's name, with 'staticlib' after it where C links it, and what it depends on."""
     lines = (line.split("#")[0] for line in (root / "crates.txt").read_text().splitlines())
-    return {name.split()[0]: deps.split() for name, colon, deps in (line.partition(":") for line in lines) if colon}
+    return [(name, deps) for name, colon, deps in (line.partition(":") for line in lines) if colon]
+
+
+def listed(root: Path) -> dict[str, list[str]]:
+    """The crates that crates.txt lists, in its order, and what each depends on."""
+    return {name.split()[0]: deps.split() for name, deps in rows(root)}
+
+
+def static(root: Path) -> list[str]:
+    """The crates that are static libraries."""
+    return [name.split()[0] for name, _ in rows(root) if "staticlib" in name.split()]
 
 
 def texts(root: Path, part: str) -> list[str]:
