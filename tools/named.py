@@ -106,7 +106,7 @@ def unknown_edits(text: str) -> Iterator[str]:
 def all_names() -> set[str]:
     """What a bare word in code marks may be: anything that a crate defines, a crate, an edit, or a function for C."""
     found = {path.name for path in (ROOT / "crates").iterdir()} | {label for _, label in all_edits()}
-    for path in ROOT.glob("crates/*/*/**/*.antt"):
+    for path in [path for part in ("specs", "proofs") for path in ROOT.glob(f"crates/*/{part}/**/*.antt")]:
         found |= set(re.findall(r"^\s*(?:unfoldable |abbrev )?pub (?:record |data )?([^\s:]+)", content(path), re.M))
     for path in ROOT.glob("crates/*/src/**/*.rt"):
         found |= set(re.findall(r"\b(?:fn|struct|enum|const) (\w+)", content(path)))

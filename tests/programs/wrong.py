@@ -8,6 +8,7 @@ in the copy. Exits 1 and says what went wrong otherwise.
 """
 import os
 import pathlib
+import re
 import shutil
 import subprocess
 import sys
@@ -31,7 +32,7 @@ class Wrong(NamedTuple):
     library: str = ""
 
 
-GAP_READ_OVER = """    let loaded = load(i, &mut bytes[at..end]);
+GAP_READ_OVER = """    let loaded = load(rt, i, &mut bytes[at..end]);
     let found = match loaded {
         FileFound::Bytes(size) => FileFound::Bytes(size),
         FileFound::Absent => FileFound::Bytes(0),
@@ -40,38 +41,43 @@ GAP_READ_OVER = """    let loaded = load(i, &mut bytes[at..end]);
 EMPTY_FOR_A_GAP = """    if size == 0 {
         return FileFound::Absent;
     }
-    FileFound::Bytes(size)
+    outcome(&mut file, size, buf.len())"""
+OPENED_AS_0 = """    match opened {
+        Ok(file) => std::os::fd::AsRawFd::as_raw_fd(file) > 0,
+        Err(_) => false,
+    }"""
+READS = """    let first = load(rt, Role::Pattern, "pattern.cir", &mut pattern[..]);
+    let second = load(rt, Role::Board, "board.cir", &mut board[..]);
 """
-READS = """    let first = load(Role::Pattern, b"pattern.cir", &mut pattern[..]);
-    let second = load(Role::Board, b"board.cir", &mut board[..]);
+NAMES_SWAPPED = """    let first = load(rt, Role::Pattern, "board.cir", &mut pattern[..]);
+    let second = load(rt, Role::Board, "pattern.cir", &mut board[..]);
 """
-NAMES_SWAPPED = """    let first = load(Role::Pattern, b"board.cir", &mut pattern[..]);
-    let second = load(Role::Board, b"pattern.cir", &mut board[..]);
-"""
+PIECE = "    let answer = output::write_whole(rt, failure, bytes);"
+HANDED = "output::hand(rt, failure, handed, "
 FINDER = [
     Wrong("the two names swapped", "finder", READS, NAMES_SWAPPED, "finder_read"),
-    Wrong("a line more", "finder", "    let answer = output", '    output::write_whole(b"hello\\n");\n    let answer = output', "finder_pieces"),
-    Wrong("silent", "finder", "    let run = report_files(", "    return;\n    let run = report_files("),
-    Wrong("nothing opened", "finder", "    as_read(input::load(name, buf))", "    as_read(FileFound::Absent)", "finder_read"),
-    Wrong("nothing printed", "finder", "output::write_whole(bytes)", "Output::Written(bytes.len())", "finder_pieces"),
-    Wrong("a piece twice", "finder", "output::write_whole(bytes)", "output::write_whole(bytes);\n    output::write_whole(bytes)", "finder_pieces"),
+    Wrong("a line more", "finder", PIECE, '    let _more = output::write_whole(rt, failure, b"hello\\n");\n' + PIECE, "finder_pieces"),
+    Wrong("silent", "finder", "    let run = report_files(", "    if true {\n        return;\n    }\n    let run = report_files("),
+    Wrong("nothing opened", "finder", "    as_read(input::load(rt, name, buf))", "    as_read(FileFound::Absent)", "finder_read"),
+    Wrong("nothing printed", "finder", PIECE, "    let answer = Output::Written(bytes.len());", "finder_pieces"),
+    Wrong("a piece twice", "finder", PIECE, "    let _once = output::write_whole(rt, failure, bytes);\n" + PIECE, "finder_pieces"),
 ]
 SHELF = [
-    Wrong("the other standard stream", "shelf", "libc::write(fd, rest)", "libc::write(2, rest)", "output"),
-    Wrong("a file that opens taken for one that does not", "shelf", "    fd >= 0", "    fd >= 64", "input"),
-    Wrong("silent", "shelf", "    shelve(&mut", "    return;\n    shelve(&mut"),
-    Wrong("nothing opened", "shelf", "    input::load(name, buf)", "    FileFound::Absent", "shelf_files"),
-    Wrong("nothing printed", "shelf", "output::hand(handed, text)", "true"),
-    Wrong("the lines twice", "shelf", "output::hand(handed, text)", "output::write_whole(text);\n    output::hand(handed, text)"),
-    Wrong("a line more", "shelf", "    output::hand(handed, text)", '    output::write_whole(b"99\\n");\n    output::hand(handed, text)'),
-    Wrong("a gap read over", "shelf", "    let found = load(i, &mut bytes[at..end]);", GAP_READ_OVER, "shelf_files"),
-    Wrong("an empty file taken for a gap", "shelf", "    FileFound::Bytes(size)\n", EMPTY_FOR_A_GAP, "input"),
+    Wrong("the other standard stream", "shelf", "take_some(&rt.stdout(), ", "take_some(&rt.stderr(), ", "output"),
+    Wrong("a file that opens taken for one that does not", "shelf", "    opened.is_ok()", "    opened.is_err()", "input"),
+    Wrong("silent", "shelf", "    shelve(\n", "    if true {\n        return;\n    }\n    shelve(\n"),
+    Wrong("nothing opened", "shelf", "    input::load(rt, name, buf)", "    FileFound::Absent", "shelf_files"),
+    Wrong("nothing printed", "shelf", HANDED + "text)", "true"),
+    Wrong("the lines twice", "shelf", "    " + HANDED + "text)", "    let _once = output::write_whole(rt, failure, text);\n    " + HANDED + "text)"),
+    Wrong("a line more", "shelf", "    " + HANDED + "text)", '    let _more = output::write_whole(rt, failure, b"99\\n");\n    ' + HANDED + "text)"),
+    Wrong("a gap read over", "shelf", "    let found = load(rt, i, &mut bytes[at..end]);", GAP_READ_OVER, "shelf_files"),
+    Wrong("an empty file taken for a gap", "shelf", "    outcome(&mut file, size, buf.len())", EMPTY_FOR_A_GAP, "input"),
 ]
 LOADER = [
-    Wrong("silent", "loader", "    let run = print_asked_for(", "    return;\n    let run = print_asked_for("),
-    Wrong("a word read twice", "loader", "    let second = hear(2, n);", "    let second = hear(3, n);", "loader_words"),
-    Wrong("nothing printed", "loader", "output::hand(handed, bytes)", "true"),
-    Wrong("the file twice", "loader", "    if output::hand(handed, bytes)", "    output::write_whole(bytes);\n    if output::hand(handed, bytes)"),
+    Wrong("silent", "loader", "    let run = print_asked_for(", "    if true {\n        return;\n    }\n    let run = print_asked_for("),
+    Wrong("a word read twice", "loader", "    let second = hear(rt, 2, n);", "    let second = hear(rt, 3, n);", "loader_words"),
+    Wrong("nothing printed", "loader", HANDED + "bytes)", "true"),
+    Wrong("the file twice", "loader", "    if " + HANDED + "bytes)", "    let _once = output::write_whole(rt, failure, bytes);\n    if " + HANDED + "bytes)"),
 ]
 
 
@@ -111,20 +117,22 @@ def store_long(crates: pathlib.Path) -> None:
 
 def close_input(crates: pathlib.Path) -> None:
     """Standard input is closed, so that a file opens as 0."""
-    replace(crates / "shelf" / "src" / "main.rt", "fn main() {\n", "fn main() {\n    libc::close(0);\n")
+    main = crates / "shelf" / "src" / "main.rt"
+    replace(main, "use call_shelf::", "use std::os::fd::{FromRawFd, OwnedFd};\nuse call_shelf::")
+    replace(main, "fn main(rt: HostRuntime) {\n", "fn main(rt: HostRuntime) {\n    drop(unsafe { OwnedFd::from_raw_fd(0) });\n")
 
 
 def fail_reading(crates: pathlib.Path) -> None:
     """Each file fails where it would end, at a read of some bytes: nothing is printed."""
-    fails = "    if more.len() > 0 {\n        return -1;\n    }\n    libc::read(fd, more)\n"
-    replace(crates / "input" / "src" / "lib.rt", "    libc::read(fd, more)\n", fails)
+    fails = "    if more.len() > 0 {\n        return Err(io::Error::from_raw_os_error(5));\n    }\n    file.read(more)\n"
+    replace(crates / "input" / "src" / "lib.rt", "    file.read(more)\n", fails)
     (crates / "shelf" / "stdout").write_bytes(b"")
 
 
 CONDITIONS = [
     (store_seventeen, Wrong("the 17th file read", "shelf", "    while i < FILES {", "    while i < FILES + 1 {", "shelf_files")),
     (store_long, Wrong("a full buffer read on, and another not", "shelf", "    if size == room {", "    if size != room {", "input")),
-    (close_input, Wrong("a file that opens as 0 taken for unreadable", "shelf", "    fd >= 0", "    fd >= 1", "input")),
+    (close_input, Wrong("a file that opens as 0 taken for unreadable", "shelf", "    opened.is_ok()", OPENED_AS_0, "input")),
     (fail_reading, Wrong("a last read of no byte", "shelf", "    let mut more = [0u8; 1];", "    let mut more = [0u8; 0];", "input")),
 ]
 
@@ -132,21 +140,28 @@ CONDITIONS = [
 def scratch(where: str) -> pathlib.Path:
     """A copy of the sources and of the stored runs."""
     copy = pathlib.Path(tempfile.mkdtemp(dir=where))
-    shutil.copytree(TOP / "crates", copy / "crates", ignore=shutil.ignore_patterns("proofs", "must-fail"))
+    shutil.copytree(TOP / "crates", copy / "crates", ignore=shutil.ignore_patterns("proofs", "must-fail", "out"))
     shutil.copy(TOP / "crates.txt", copy)
     return copy
 
 
-def try_program(copy: pathlib.Path, program: str) -> subprocess.CompletedProcess:
-    """Builds a program of the copy without a proof, and compares what it writes with what is stored."""
-    return subprocess.run(["rt", "try", program], cwd=copy, capture_output=True, text=True, check=False)
+def try_program(copy: pathlib.Path, program: str) -> tuple[bool, str]:
+    """Builds a program of the copy without a proof and runs it on what is stored: whether it writes what is stored, and what rt says."""
+    crate = copy / "crates" / program
+    words = ["rt", "try"]
+    for path in sorted(crate.glob("data/*")):
+        words += ["--data", f"{path.name}=data/{path.name}"]
+    if (crate / "args").exists():
+        words += ["--", *(crate / "args").read_text().split()]
+    tried = subprocess.run(words, cwd=crate, stdin=subprocess.DEVNULL, capture_output=True, check=False)
+    return tried.stdout == (crate / "stdout").read_bytes() and tried.returncode == 0, tried.stderr.decode(errors="replace")
 
 
 def check_right(copy: pathlib.Path, program: str) -> None:
     """The program as it is writes what is stored."""
-    tried = try_program(copy, program)
-    if tried.returncode != 0:
-        sys.exit(f"wrong.py: {program} as it is does not write what is stored:\n{tried.stdout}{tried.stderr}")
+    is_stored, said = try_program(copy, program)
+    if not is_stored:
+        sys.exit(f"wrong.py: {program} as it is does not write what is stored:\n{said}")
 
 
 def check_wrong(copy: pathlib.Path, wrong: Wrong) -> None:
@@ -154,12 +169,12 @@ def check_wrong(copy: pathlib.Path, wrong: Wrong) -> None:
     crate = copy / "crates" / (wrong.library or wrong.program) / "src"
     source = crate / ("lib.rt" if wrong.library else "main.rt")
     right = replace(source, wrong.old, wrong.new)
-    tried = try_program(copy, wrong.program)
+    is_stored, said = try_program(copy, wrong.program)
     source.write_text(right)
-    if tried.returncode == 0:
+    if is_stored:
         sys.exit(f"wrong.py: {wrong.program}, {wrong.label}: what is stored does not tell it from the right one")
-    if "native program" not in tried.stdout + tried.stderr:
-        sys.exit(f"wrong.py: {wrong.program}, {wrong.label}: it was not built:\n{tried.stdout}{tried.stderr}")
+    if not re.search(r"^run=ended", said, re.M):
+        sys.exit(f"wrong.py: {wrong.program}, {wrong.label}: it was not built, or did not end:\n{said}")
 
 
 def check_stored(where: str, wrongs: list[Wrong]) -> int:
