@@ -6,7 +6,7 @@ with the value before it. Its keys:
     entry: 6b                                       the label, which no other entry has
     says: Two nodes are now equal when ..           the sentence, once
     paragraph: 4.1, 1.2                             paragraphs of docs/SPECIFICATION.md that say it
-    definition: table/specs/Row: kindsAgree, ..     a file of specs/, and names in it
+    definition: table/specs/Row: kinds_agree, ..     a file of specs/, and names in it
     contract: table_first::start, ..                functions; or words that begin with 'every'
     theorem: table/proofs/Agreement: agrees-kinds   a file of proofs/, and names in it
     edit: table_first: packages_ignored, ..         a crate, and labels of its must-fail edits
