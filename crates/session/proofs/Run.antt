@@ -47,8 +47,8 @@ run_holds [] [] m h e = (refl, subst (Holds m) (sym e) h)
 run_holds [] (r ∷ rs) m h c = absurd c
 run_holds (linkIndex ∷ linkIndices) [] m h c = absurd c
 run_holds (linkIndex ∷ linkIndices) (r ∷ rs) m h (s, cut, rest) =
-    let (e, content) = cut.machine m h in
-    let (es, end) = run_holds linkIndices rs (cut_machine m linkIndex) rest.now in
+    let (e, after, content) = cut.machine m h in
+    let (es, end) = run_holds linkIndices rs (cut_machine m linkIndex) after rest in
     (ap₂ (λ (x : Verdict) (xs : List Verdict). x ∷ xs) e es, end)
 
 -- the links left after a list are those that are not in it

@@ -38,4 +38,5 @@ match_tables-requires c =
     }
 
 pub returns : goal.returns
-returns c = c.match_tables.ensures _ _ _ _ _ (made (goal.at.returns c).After-prepare_along)
+returns c =
+    c.match_tables.ensures _ _ _ _ _ (made (goal.at.returns c).After-prepare_along)
