@@ -1,5 +1,6 @@
 -- Examples of the least that still says none, by computation. Assumes nothing.
-use Rattle.base_lists.specs.Kit.{◌≡◌, refl, List, [], ◌∷◌, ℕ}
+use Rattle.std.specs.Prelude.{◌≡◌, ◌∷◌}
+use Rattle.base_lists.specs.Kit.{refl, List, [], ℕ}
 use Rattle.base_lists.specs.List.{maximum}
 use Rattle.base_lists.specs.Below.{keep_from}
 use Rattle.graph.specs.Chosen.{picked, chosen}

@@ -1,6 +1,7 @@
 -- The kept links bar, and with any one or more of them taken away the rest does not. Where there is no place all links together bar, which is
 -- why the procedure can begin. Assumes nothing.
-use Rattle.base_lists.specs.Kit.{◌≡◌, ◌∙◌, sym, ap, subst, ◌↔◌, not, List, ℕ, ◌<◌, zero-le, T, length, get_or, set, length-replicate, get_or-replicate, arith, eq-eqb, T_not, not_T}
+use Rattle.std.specs.Prelude.{◌≡◌, ◌↔◌, ◌<◌}
+use Rattle.base_lists.specs.Kit.{◌∙◌, sym, ap, subst, not, List, ℕ, zero-le, T, length, get_or, set, length-replicate, get_or-replicate, arith, eq-eqb, T_not, not_T}
 use Rattle.base_lists.proofs.Tests.{true-T}
 use Rattle.graph.specs.Chosen.{ChosenLink}
 use Rattle.graph.specs.Circuit.{Circuit, LinkAt, HasLink, graph_of, circuit_graph}

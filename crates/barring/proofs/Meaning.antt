@@ -1,6 +1,7 @@
 -- The test of chosen links means barring: it says whether the largest set of pairs that meets kinds and those links alone has a pair with the
 -- centre. Assumes nothing.
-use Rattle.base_lists.specs.Kit.{◌↔◌, List, ℕ, ◌≤◌, T, length, T_not, not_T}
+use Rattle.std.specs.Prelude.{◌↔◌, ◌≤◌}
+use Rattle.base_lists.specs.Kit.{List, ℕ, T, length, T_not, not_T}
 use Rattle.graph.specs.Chosen.{chosen, ChosenLink}
 use Rattle.graph.specs.Circuit.{Circuit, graph_of, circuit_graph}
 use Rattle.graph.proofs.Ball.{Within}

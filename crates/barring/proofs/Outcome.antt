@@ -1,5 +1,6 @@
 -- What the outcome comes to, by cases of whether the centre is found. Assumes nothing.
-use Rattle.base_lists.specs.Kit.{◌≡◌, false, true, List, [], ◌∷◌, ◌++◌, ℕ, length, drop}
+use Rattle.std.specs.Prelude.{◌≡◌, ◌∷◌, ◌++◌}
+use Rattle.base_lists.specs.Kit.{false, true, List, [], ℕ, length, drop}
 use Rattle.graph.specs.Circuit.{Circuit}
 use Rattle.file_format.specs.Reading.{filled}
 use Rattle.file_format.specs.Refusals.{first, centre_placed}

@@ -1,6 +1,7 @@
 -- Dropping one after another, by a test that more links pass if fewer do: what is left passes, and without any one of what is left it would
 -- not. Assumes nothing.
-use Rattle.base_lists.specs.Kit.{◌≡◌, ◌∙◌, sym, ap, refl, subst, ◌⊎◌, inl, inr, Bool, false, true, cond, List, ℕ, ◌≤◌, ◌<◌, ◌+◌, suc, zero, eq-or-lt_of_le, T, eqb, length, get_or, set, length-set, get_or-eq_default, get_or-set_other, get_or-set_same, arith, ne_eqb}
+use Rattle.std.specs.Prelude.{◌≡◌, ◌⊎◌, ◌≤◌, ◌<◌, ◌+◌}
+use Rattle.base_lists.specs.Kit.{◌∙◌, sym, ap, refl, subst, inl, inr, Bool, false, true, cond, List, ℕ, suc, zero, eq-or-lt_of_le, T, eqb, length, get_or, set, length-set, get_or-eq_default, get_or-set_other, get_or-set_same, arith, ne_eqb}
 use native.Mathlib.Decide.{dec_lt, ℕ_discrete}
 use Rattle.base_lists.proofs.Tests.{false-T, true-T}
 use Rattle.graph.specs.Search.{inside}

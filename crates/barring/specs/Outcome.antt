@@ -1,5 +1,6 @@
 -- What looking for the least that still bars comes to: the reply, and the lent bytes' later content, from the inputs alone.
-use Rattle.base_lists.specs.Kit.{List, [], ◌∷◌, ℕ}
+use Rattle.std.specs.Prelude.{◌∷◌}
+use Rattle.base_lists.specs.Kit.{List, [], ℕ}
 use Rattle.graph.specs.Circuit.{Circuit}
 use Rattle.file_format.specs.Reading.{filled}
 use Rattle.file_format.specs.Refusals.{Verdict, accept, refuse, first, centre_placed}

@@ -1,5 +1,6 @@
 -- From the ball's list and first table to the trials, and from the trial of all links to whether the centre has a place. Assumes nothing.
-use Rattle.base_lists.specs.Kit.{◌≡◌, ◌∙◌, sym, ap, subst, Bool, false, true, not, List, ◌++◌, ℕ, ◌≤◌, ◌<◌, length, take, take_at, take-append-le, not-false, not-true}
+use Rattle.std.specs.Prelude.{◌≡◌, ◌++◌, ◌≤◌, ◌<◌}
+use Rattle.base_lists.specs.Kit.{◌∙◌, sym, ap, subst, Bool, false, true, not, List, ℕ, length, take, take_at, take-append-le, not-false, not-true}
 use Rattle.graph.specs.Circuit.{Circuit}
 use Rattle.graph.specs.Net.{NetOf}
 use Rattle.file_format.specs.declared.Role.TheVariants as role

@@ -1,5 +1,6 @@
 -- Where the dropping of links stands. Assumes nothing.
-use Rattle.base_lists.specs.Kit.{◌≡◌, ◌∙◌, sym, ap, refl, subst, Bool, false, true, cond, List, ◌∷◌, ℕ, ◌≤◌, ◌<◌, ◌+◌, ◌-◌, suc, zero, add-one, length, get_or, take, set, length-set, length-replicate, get_or-replicate, get_or-set_other, set-get_or, set-set, arith}
+use Rattle.std.specs.Prelude.{◌≡◌, ◌∷◌, ◌≤◌, ◌<◌, ◌+◌, ◌-◌}
+use Rattle.base_lists.specs.Kit.{◌∙◌, sym, ap, refl, subst, Bool, false, true, cond, List, ℕ, suc, zero, add-one, length, get_or, take, set, length-set, length-replicate, get_or-replicate, get_or-set_other, set-get_or, set-set, arith}
 use Rattle.graph.specs.Circuit.{Circuit, circuit}
 use Rattle.barring.specs.Least.{bars, drop_from, all_links, least}
 use Rattle.barring_find.specs.Trial.{Tried, EveryBars}

@@ -1,5 +1,6 @@
 -- Over a board's neighbour tables the search lists the ball. Assumes nothing.
-use Rattle.base_lists.specs.Kit.{◌≡◌, List, ℕ, ◌≤◌, ◌<◌, length, take}
+use Rattle.std.specs.Prelude.{◌≡◌, ◌≤◌, ◌<◌}
+use Rattle.base_lists.specs.Kit.{List, ℕ, length, take}
 use Rattle.base_lists.specs.List.{Below}
 use Rattle.base_lists.proofs.Entries.{all-below}
 use Rattle.graph.specs.Bfs.{bfs, adjacent, Found}

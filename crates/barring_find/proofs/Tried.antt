@@ -1,5 +1,6 @@
 -- From what a trial starts from to what it says. Assumes nothing.
-use Rattle.base_lists.specs.Kit.{◌≡◌, ◌∙◌, sym, ap, refl, subst, Bool, false, true, cond, not-not, List, ℕ, eqb, length, get_or}
+use Rattle.std.specs.Prelude.{◌≡◌}
+use Rattle.base_lists.specs.Kit.{◌∙◌, sym, ap, refl, subst, Bool, false, true, cond, not-not, List, ℕ, eqb, length, get_or}
 use Rattle.base_lists.specs.List.{Below}
 use Rattle.base_lists.proofs.Tables.{get_d_tabulate, tabulate-same}
 use Rattle.base_lists.proofs.Entries.{all-below, below_wider}

@@ -1,5 +1,6 @@
 -- The ball around a centre, listed, and the pairs that agree there. Whose links the neighbour tables are of need not be handed on.
-use Rattle.base_lists.specs.Kit.{◌≡◌, List, ℕ, ◌≤◌, length, take}
+use Rattle.std.specs.Prelude.{◌≡◌, ◌≤◌}
+use Rattle.base_lists.specs.Kit.{List, ℕ, length, take}
 use Rattle.base_lists.specs.List.{Below}
 use Rattle.graph.specs.Circuit.{Circuit, circuit}
 use Rattle.graph.specs.Net.{NetOf}

@@ -1,6 +1,7 @@
 -- What a trial starts from, in the ball around a centre, and what it says. Whose kinds the first table is of need not be handed on: the contracts
 -- ask for some pattern and board, and promise for every one.
-use Rattle.base_lists.specs.Kit.{◌≡◌, Bool, List, ℕ, ◌≤◌, ◌<◌, eqb, length, get_or}
+use Rattle.std.specs.Prelude.{◌≡◌, ◌≤◌, ◌<◌}
+use Rattle.base_lists.specs.Kit.{Bool, List, ℕ, eqb, length, get_or}
 use Rattle.graph.specs.Circuit.{Circuit, circuit}
 use Rattle.graph.specs.Net.{NetOf}
 use Rattle.file_format.specs.declared.Role.TheVariants as role

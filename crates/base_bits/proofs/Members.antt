@@ -1,5 +1,6 @@
 -- The lowest digit that is set, the number without it, and the members of a set in rising order. Assumes nothing.
-use Rattle.base_lists.specs.Kit.{◌≡◌, ◌∙◌, sym, ap, refl, ap₂, Bool, false, true, cond, ◌&&◌, not, [], ◌∷◌, ℕ, ◌<◌, ◌+◌, ◌-◌, suc, zero, ◌^◌, ◌/◌, ◌%◌, lt_of_lt_of_le, lt_of_le_of_lt, lt_of_not-le, pow-suc, eq-sub_of_add-eq, min-zero, ne_of_gt, zero-min, T, eqb, length, arith}
+use Rattle.std.specs.Prelude.{◌≡◌, ◌&&◌, ◌∷◌, ◌<◌, ◌+◌, ◌-◌, ◌^◌, ◌/◌, ◌%◌}
+use Rattle.base_lists.specs.Kit.{◌∙◌, sym, ap, refl, ap₂, Bool, false, true, cond, not, [], ℕ, suc, zero, lt_of_lt_of_le, lt_of_le_of_lt, lt_of_not-le, pow-suc, eq-sub_of_add-eq, min-zero, ne_of_gt, zero-min, T, eqb, length, arith}
 use lib.Arith.{lt-one}
 use lib.Bits.{bit_and, and_step, and_le_l, and_le_r}
 use lib.Count.{count_trailing_zeros, under}

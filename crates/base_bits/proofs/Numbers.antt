@@ -1,5 +1,6 @@
 -- A number by its digits: sums and differences of sets, and the number whose digits are those that pass a test. Assumes nothing.
-use Rattle.base_lists.specs.Kit.{◌≡◌, ◌∙◌, sym, ap, refl, subst, ◌⊎◌, inl, inr, Bool, false, true, cond, ◌&&◌, not, ◌||◌, and-true, or-false, and-false, ℕ, ◌≤◌, ◌<◌, ◌+◌, ◌-◌, suc, zero, ◌*◌, ◌^◌, not-suc-le-zero, le_refl, le_of_suc-le-suc, le_trans, le_of_eq, eq-or-lt_of_le, add-zero, lt_of_lt_of_le, pow-suc, eq-sub_of_add-eq, le-add_left, ne_of_lt, add-one, T, eqb, eqb→eq, arith, eq-eqb, ne_eqb, eqb-true, List, ltb, length, get_or, set, get_or-set_other, get_or-set_same, set_out, ltb-false, eqb-false, ltb-true, replicate}
+use Rattle.std.specs.Prelude.{◌≡◌, ◌⊎◌, ◌&&◌, ◌||◌, ◌≤◌, ◌<◌, ◌+◌, ◌-◌, ◌*◌, ◌^◌}
+use Rattle.base_lists.specs.Kit.{◌∙◌, sym, ap, refl, subst, inl, inr, Bool, false, true, cond, not, and-true, or-false, and-false, ℕ, suc, zero, not-suc-le-zero, le_refl, le_of_suc-le-suc, le_trans, le_of_eq, eq-or-lt_of_le, add-zero, lt_of_lt_of_le, pow-suc, eq-sub_of_add-eq, le-add_left, ne_of_lt, add-one, T, eqb, eqb→eq, arith, eq-eqb, ne_eqb, eqb-true, List, ltb, length, get_or, set, get_or-set_other, get_or-set_same, set_out, ltb-false, eqb-false, ltb-true, replicate}
 use native.Mathlib.Decide.{dec_lt}
 use lib.Bits.{bit_and, bit_or, or_disjoint}
 use lib.Pow.{pow_pos, pow_mono}

@@ -1,5 +1,6 @@
 -- The parts of a set that pass a test, taken one after another. Assumes nothing.
-use Rattle.base_lists.specs.Kit.{◌≡◌, ◌∙◌, sym, ap, refl, ap₂, Bool, false, true, cond, ◌&&◌, not, ◌||◌, and-true, or-false, and-false, ℕ, ◌<◌, zero, ◌^◌, eqb, eqb-true}
+use Rattle.std.specs.Prelude.{◌≡◌, ◌&&◌, ◌||◌, ◌<◌, ◌^◌}
+use Rattle.base_lists.specs.Kit.{◌∙◌, sym, ap, refl, ap₂, Bool, false, true, cond, not, and-true, or-false, and-false, ℕ, zero, eqb, eqb-true}
 use lib.Bits.{bit_or, or_lt}
 use lib.Pow.{pow_pos, pow-lt}
 use Rattle.base_lists.proofs.Tests.{both_left, T_true}

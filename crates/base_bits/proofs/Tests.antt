@@ -1,5 +1,6 @@
 -- Tests of whole sets by one operation on numbers: empty, included, with a common part. Assumes nothing.
-use Rattle.base_lists.specs.Kit.{◌≡◌, ◌∙◌, sym, ap, refl, subst, Bool, false, true, ◌&&◌, not, ◌||◌, not-not, or_assoc, and_self, ℕ, ◌<◌, zero, ◌^◌, T, eqb, eqb→eq, not_T, T_not, eq-eqb, ◌≤◌, arith}
+use Rattle.std.specs.Prelude.{◌≡◌, ◌&&◌, ◌||◌, ◌<◌, ◌^◌, ◌≤◌}
+use Rattle.base_lists.specs.Kit.{◌∙◌, sym, ap, refl, subst, Bool, false, true, not, not-not, or_assoc, and_self, ℕ, zero, T, eqb, eqb→eq, not_T, T_not, eq-eqb, arith}
 use lib.Bits.{bit_and, bit_or, and_lt, or_add_and, and_le_r, and_le_l}
 use Rattle.base_lists.specs.List.{all_below, any_below}
 use Rattle.base_lists.proofs.Tests.{both_left, both_right, T_true, T_false, true-T, false-T, same_test, at-all_below, all_below-at, at-any_below, any_below-at, unless-at, at-unless}

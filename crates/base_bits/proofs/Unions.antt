@@ -1,5 +1,6 @@
 -- The union of the sets that a table gives to the parts of a set. Assumes nothing.
-use Rattle.base_lists.specs.Kit.{◌≡◌, ◌∙◌, sym, ap, Bool, ◌&&◌, ◌||◌, List, [], ◌∷◌, ℕ, ◌<◌, ◌-◌, zero, ◌^◌, get_or, ◌++◌, refl, ap₂, suc, suc-le-suc, zero-lt-suc, set, get_or-set_other}
+use Rattle.std.specs.Prelude.{◌≡◌, ◌&&◌, ◌||◌, ◌∷◌, ◌<◌, ◌-◌, ◌^◌, ◌++◌}
+use Rattle.base_lists.specs.Kit.{◌∙◌, sym, ap, Bool, List, [], ℕ, zero, get_or, refl, ap₂, suc, suc-le-suc, zero-lt-suc, set, get_or-set_other}
 use lib.Bits.{bit_and, bit_or, or_zero_l}
 use lib.Count.{count_trailing_zeros}
 use Rattle.base_lists.specs.List.{any, any_below, Occurs}

@@ -1,5 +1,6 @@
 -- A set of pattern parts as a number: "a 32-bit number per node, the sum of 2^u over its parts u".
-use Rattle.base_lists.specs.Kit.{Bool, cond, ◌&&◌, not, ◌||◌, List, [], ◌∷◌, ℕ, ◌+◌, suc, zero, ◌^◌, ◌/◌, ◌%◌, T, eqb, get_or, ◌<◌}
+use Rattle.std.specs.Prelude.{◌&&◌, ◌||◌, ◌∷◌, ◌+◌, ◌^◌, ◌/◌, ◌%◌, ◌<◌}
+use Rattle.base_lists.specs.Kit.{Bool, cond, not, List, [], ℕ, suc, zero, T, eqb, get_or}
 use Rattle.std.specs.Int.Bits.{bit_or}
 use Rattle.base_lists.specs.List.{all_below, any_below}
 use Rattle.base_lists.specs.Below.{count_below, least_below, collect}

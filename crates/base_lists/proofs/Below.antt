@@ -1,5 +1,6 @@
 -- Laws of the numbers below a bound that pass a test. Assumes nothing.
-use Rattle.base_lists.specs.Kit.{◌≡◌, ◌∙◌, sym, ap, refl, ap₂, Bool, false, true, cond, ◌&&◌, not, ◌||◌, and-true, or-false, or_assoc, List, [], ◌∷◌, ◌++◌, ℕ, ◌≤◌, ◌<◌, ◌+◌, suc, zero, zero-le, suc-le-suc, not-suc-le-zero, le_of_suc-le-suc, zero-lt-suc, add-zero, zero-add, le_antisymm, add-suc, lt_of_le_of_lt, lt_of_not-le, one-add, T, eqb, eqb-suc-suc, eqb-suc-zero, length, arith, eq-eqb, ne_eqb, eqb-true, eqb-false}
+use Rattle.std.specs.Prelude.{◌≡◌, ◌&&◌, ◌||◌, ◌∷◌, ◌++◌, ◌≤◌, ◌<◌, ◌+◌}
+use Rattle.base_lists.specs.Kit.{◌∙◌, sym, ap, refl, ap₂, Bool, false, true, cond, not, and-true, or-false, or_assoc, List, [], ℕ, suc, zero, zero-le, suc-le-suc, not-suc-le-zero, le_of_suc-le-suc, zero-lt-suc, add-zero, zero-add, le_antisymm, add-suc, lt_of_le_of_lt, lt_of_not-le, one-add, T, eqb, eqb-suc-suc, eqb-suc-zero, length, arith, eq-eqb, ne_eqb, eqb-true, eqb-false}
 use Rattle.base_lists.specs.List.{any, all_below, any_below}
 use Rattle.base_lists.specs.Below.{count_below, least_below, collect}
 use Rattle.base_lists.proofs.Tests.{T_true, true-T, false-T}

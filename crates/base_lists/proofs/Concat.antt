@@ -1,5 +1,6 @@
 -- Laws of lists one after another: one more, none, the first apart, how long they are together. Assumes nothing.
-use Rattle.base_lists.specs.Kit.{◌≡◌, List, ◌++◌, ℕ, ◌+◌, add-one, refl, ap₂, [], ◌<◌, suc, zero, arith, ◌∙◌, sym, ap, append-nil, append_assoc, add-zero, add-suc, ◌⊎◌, inl, inr, ◌≤◌, le_refl, eq-or-lt_of_le, length, length-append, ◌*◌, zero-le, suc-mul, not-suc-le-zero, le_of_suc-le-suc}
+use Rattle.std.specs.Prelude.{◌≡◌, ◌++◌, ◌+◌, ◌<◌, ◌⊎◌, ◌≤◌, ◌*◌}
+use Rattle.base_lists.specs.Kit.{List, ℕ, add-one, refl, ap₂, [], suc, zero, arith, ◌∙◌, sym, ap, append-nil, append_assoc, add-zero, add-suc, inl, inr, le_refl, eq-or-lt_of_le, length, length-append, zero-le, suc-mul, not-suc-le-zero, le_of_suc-le-suc}
 use Rattle.base_lists.specs.Below.{concat_below}
 
 -- one more

@@ -1,5 +1,6 @@
 -- What a list has among its entries, and lists whose entries are below a bound. Assumes nothing.
-use Rattle.base_lists.specs.Kit.{◌≡◌, [], ◌∷◌, ℕ, suc, zero, not-suc-le-zero, le_of_suc-le-suc, refl, zero-lt-suc, subst, ◌↔◌, Bool, List, T, sym, ltb, lt-ltb, ◌≤◌, lt_of_lt_of_le, ◌+◌, drop, length-drop, get_or-drop, arith, ◌++◌, suc-le-suc, ◌<◌, length, get_or, get_or-eq_default, replicate, length-replicate, get_or-replicate, ltb→lt, lt→ltb}
+use Rattle.std.specs.Prelude.{◌≡◌, ◌∷◌, ◌↔◌, ◌≤◌, ◌+◌, ◌++◌, ◌<◌}
+use Rattle.base_lists.specs.Kit.{[], ℕ, suc, zero, not-suc-le-zero, le_of_suc-le-suc, refl, zero-lt-suc, subst, Bool, List, T, sym, ltb, lt-ltb, lt_of_lt_of_le, drop, length-drop, get_or-drop, arith, suc-le-suc, length, get_or, get_or-eq_default, replicate, length-replicate, get_or-replicate, ltb→lt, lt→ltb}
 use Rattle.base_lists.specs.List.{Occurs, all, any, Below}
 use Rattle.base_lists.proofs.Tests.{all-at, at_all, any_at, at-any, true-T}
 use native.Mathlib.Decide.{dec_lt}

@@ -1,5 +1,6 @@
 -- A loop that fills a list from the front, one store a turn, whatever the width of its entries: the laws that the proofs of such loops cite. Assumes nothing.
-use Rattle.base_lists.specs.Kit.{◌≡◌, ◌∙◌, sym, ap, refl, List, ◌++◌, ℕ, ◌≤◌, ◌<◌, ◌+◌, zero-le, length, get_or, drop, set, replicate, length-set, arith}
+use Rattle.std.specs.Prelude.{◌≡◌, ◌++◌, ◌≤◌, ◌<◌, ◌+◌}
+use Rattle.base_lists.specs.Kit.{◌∙◌, sym, ap, refl, List, ℕ, zero-le, length, get_or, drop, set, replicate, length-set, arith}
 use Rattle.base_lists.specs.List.{tabulate}
 use Rattle.base_lists.proofs.Tables.{is-tabulate, filled-all, filled_next, filled_none, replicate-rule}
 

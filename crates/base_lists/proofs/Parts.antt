@@ -1,5 +1,6 @@
 -- Laws of a stretch of a list. Assumes nothing.
-use Rattle.base_lists.specs.Kit.{◌≡◌, ◌∙◌, ap, List, ◌++◌, ℕ, ◌≤◌, ◌+◌, length, take, drop, length-append, length-drop, length-take, take_at, drop_at, arith, length-take-le, sym, subst, take-append-le, drop-append-le, ◌⊎◌, inl, inr, ◌<◌, ◌-◌, set, take-set-le, drop-set-add, drop-set-lt, ◌∷◌, suc, le_refl, length-set, drop-cons, get_or-set_same, [], zero, take-nil, get_or, get_or-take, get_or-drop, refl, not-suc-le-zero, le_of_suc-le-suc, replicate, sets, sets-eq, sub_self, take-suc}
+use Rattle.std.specs.Prelude.{◌≡◌, ◌++◌, ◌≤◌, ◌+◌, ◌⊎◌, ◌<◌, ◌-◌, ◌∷◌}
+use Rattle.base_lists.specs.Kit.{◌∙◌, ap, List, ℕ, length, take, drop, length-append, length-drop, length-take, take_at, drop_at, arith, length-take-le, sym, subst, take-append-le, drop-append-le, inl, inr, set, take-set-le, drop-set-add, drop-set-lt, suc, le_refl, length-set, drop-cons, get_or-set_same, [], zero, take-nil, get_or, get_or-take, get_or-drop, refl, not-suc-le-zero, le_of_suc-le-suc, replicate, sets, sets-eq, sub_self, take-suc}
 use Rattle.base_lists.specs.List.{part, tabulate}
 use Rattle.base_lists.proofs.Tables.{is-tabulate, length-tabulate, get_d_tabulate}
 

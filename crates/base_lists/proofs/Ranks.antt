@@ -1,6 +1,7 @@
 -- The rank of a number that passes a test is how many numbers before it pass. The collected list has at each rank the number of that
 -- rank, and a list of lists collected row by row is one collected list. Assumes nothing.
-use Rattle.base_lists.specs.Kit.{◌≡◌, ◌∙◌, sym, ap, refl, ap₂, ⊎_elim, ◌⊎◌, inl, inr, Bool, false, true, cond, ◌||◌, List, ◌∷◌, ◌++◌, append-nil, append_assoc, ℕ, ◌≤◌, ◌<◌, ◌+◌, ◌-◌, suc, zero, ◌*◌, ◌/◌, zero-le, ◌%◌, suc-le-suc, not-suc-le-zero, le_of_suc-le-suc, zero-lt-suc, eq-or-lt_of_le, add-zero, zero-add, le_antisymm, add-suc, lt_of_not-le, div-add-mod', add-sub_of_le, div-lt_iff_lt-mul, mod-eq_of_lt, div-eq_of_lt, le-div_iff_mul-le, suc-mul, div-mul-le_self, mul-add-div_right, mul-add-mod_self_right, zero-mul, one-add, T, eqb, eqb→eq, get_or, arith, eq-eqb}
+use Rattle.std.specs.Prelude.{◌≡◌, ◌⊎◌, ◌||◌, ◌∷◌, ◌++◌, ◌≤◌, ◌<◌, ◌+◌, ◌-◌, ◌*◌, ◌/◌, ◌%◌}
+use Rattle.base_lists.specs.Kit.{◌∙◌, sym, ap, refl, ap₂, ⊎_elim, inl, inr, Bool, false, true, cond, List, append-nil, append_assoc, ℕ, suc, zero, zero-le, suc-le-suc, not-suc-le-zero, le_of_suc-le-suc, zero-lt-suc, eq-or-lt_of_le, add-zero, zero-add, le_antisymm, add-suc, lt_of_not-le, div-add-mod', add-sub_of_le, div-lt_iff_lt-mul, mod-eq_of_lt, div-eq_of_lt, le-div_iff_mul-le, suc-mul, div-mul-le_self, mul-add-div_right, mul-add-mod_self_right, zero-mul, one-add, T, eqb, eqb→eq, get_or, arith, eq-eqb}
 use Rattle.base_lists.specs.List.{any_below}
 use Rattle.base_lists.specs.Below.{count_below, collect, concat_below}
 use Rattle.base_lists.proofs.Tests.{T_true, true-T, either_left, either-right, any_below-at, at-any_below}

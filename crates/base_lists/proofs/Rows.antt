@@ -1,5 +1,6 @@
 -- Rows of numbers: their sum and their largest entry, and sequences of rows (or of anything) that come to rest. Assumes nothing.
-use Rattle.base_lists.specs.Kit.{◌≡◌, ◌∙◌, sym, ap, refl, subst, ⊎_elim, ◌⊎◌, inl, inr, List, [], ◌∷◌, ℕ, ◌≤◌, ◌<◌, ◌+◌, suc, zero, zero-le, suc-le-suc, max, not-suc-le-zero, le_of_suc-le-suc, zero-lt-suc, eq-or-lt_of_le, le_antisymm, suc_inj, le-max_left, length, get_or, arith, ◌++◌, zero-add, add_assoc, add-zero, take, take-suc, drop, take-append-drop}
+use Rattle.std.specs.Prelude.{◌≡◌, ◌⊎◌, ◌∷◌, ◌≤◌, ◌<◌, ◌+◌, ◌++◌}
+use Rattle.base_lists.specs.Kit.{◌∙◌, sym, ap, refl, subst, ⊎_elim, inl, inr, List, [], ℕ, suc, zero, zero-le, suc-le-suc, max, not-suc-le-zero, le_of_suc-le-suc, zero-lt-suc, eq-or-lt_of_le, le_antisymm, suc_inj, le-max_left, length, get_or, arith, zero-add, add_assoc, add-zero, take, take-suc, drop, take-append-drop}
 use Rattle.base_lists.specs.List.{tabulate, sum, maximum}
 use Rattle.base_lists.proofs.Tables.{length-tabulate, get_d_tabulate}
 

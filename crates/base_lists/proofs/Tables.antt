@@ -1,5 +1,6 @@
 -- Laws of lists made from a rule. Assumes nothing.
-use Rattle.base_lists.specs.Kit.{◌≡◌, ◌∙◌, sym, ap, refl, List, [], ◌∷◌, ◌++◌, append-nil, ℕ, ◌≤◌, ◌<◌, ◌+◌, suc, zero, not-suc-le-zero, le_of_suc-le-suc, le_of_eq, zero-add, suc-add, add-one, length, get_or, drop, set, drop_of_length-le, drop-cons, ext_get_or, set_at, append_snoc, arith, get_or-drop, get_or-append-add, drop-length, ap₂, subst, Bool, false, true, eqb, length-set, get_or-set_other, get_or-set_same, eqb-true, eqb-false, add-zero, add-suc, sets, replicate}
+use Rattle.std.specs.Prelude.{◌≡◌, ◌∷◌, ◌++◌, ◌≤◌, ◌<◌, ◌+◌}
+use Rattle.base_lists.specs.Kit.{◌∙◌, sym, ap, refl, List, [], append-nil, ℕ, suc, zero, not-suc-le-zero, le_of_suc-le-suc, le_of_eq, zero-add, suc-add, add-one, length, get_or, drop, set, drop_of_length-le, drop-cons, ext_get_or, set_at, append_snoc, arith, get_or-drop, get_or-append-add, drop-length, ap₂, subst, Bool, false, true, eqb, length-set, get_or-set_other, get_or-set_same, eqb-true, eqb-false, add-zero, add-suc, sets, replicate}
 use Rattle.base_lists.specs.List.{tabulate}
 
 pub length-tabulate : (n : ℕ) (f : ℕ → ℕ) → length (tabulate n f) ≡ n

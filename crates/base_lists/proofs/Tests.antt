@@ -1,5 +1,6 @@
 -- What the Boolean tests of specs/List mean, and how they are taken apart and put together. Assumes nothing.
-use Rattle.base_lists.specs.Kit.{◌≡◌, sym, refl, subst, ◌⊎◌, inl, inr, Bool, false, true, ◌&&◌, not, ◌||◌, List, [], ◌∷◌, ℕ, ◌<◌, suc, zero, suc-le-suc, not-suc-le-zero, le_of_suc-le-suc, zero-lt-suc, T, length, get_or, cond, eqb, ◌≤◌, arith, zero-le, eqb→eq, ltb, ltb-false, ltb-true, eqb-true, eqb-false, eq-eqb}
+use Rattle.std.specs.Prelude.{◌≡◌, ◌⊎◌, ◌&&◌, ◌||◌, ◌∷◌, ◌<◌, ◌≤◌}
+use Rattle.base_lists.specs.Kit.{sym, refl, subst, inl, inr, Bool, false, true, not, List, [], ℕ, suc, zero, suc-le-suc, not-suc-le-zero, le_of_suc-le-suc, zero-lt-suc, T, length, get_or, cond, eqb, arith, zero-le, eqb→eq, ltb, ltb-false, ltb-true, eqb-true, eqb-false, eq-eqb}
 use Rattle.base_lists.specs.List.{all, any, all_below, any_below}
 
 -- ---- both, either, not

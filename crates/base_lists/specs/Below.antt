@@ -1,5 +1,6 @@
 -- The numbers below a bound that pass a test: how many, which is the least, and their list; and lists one after another.
-use Rattle.base_lists.specs.Kit.{Bool, cond, List, [], ◌∷◌, ◌++◌, ℕ, ◌+◌, suc, zero}
+use Rattle.std.specs.Prelude.{◌∷◌, ◌++◌, ◌+◌}
+use Rattle.base_lists.specs.Kit.{Bool, cond, List, [], ℕ, suc, zero}
 
 -- how many numbers below n pass the test
 unfoldable pub count_below : ℕ → (ℕ → Bool) → ℕ

@@ -1,5 +1,6 @@
 -- Tests over lists and below a bound, and lists made from a rule: the few list functions that definitions of every layer use.
-use Rattle.base_lists.specs.Kit.{◌≡◌, Bool, false, true, ◌&&◌, ◌||◌, List, [], ◌∷◌, ℕ, ◌<◌, ◌+◌, suc, zero, max, length, get_or, take, drop}
+use Rattle.std.specs.Prelude.{◌≡◌, ◌&&◌, ◌||◌, ◌∷◌, ◌<◌, ◌+◌}
+use Rattle.base_lists.specs.Kit.{Bool, false, true, List, [], ℕ, suc, zero, max, length, get_or, take, drop}
 
 -- every element passes the test
 unfoldable pub all : (ℕ → Bool) → List ℕ → Bool

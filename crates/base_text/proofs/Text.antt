@@ -1,7 +1,8 @@
 -- Laws of text written into a table, pieces one after another, the room that they need, and the whole table; of decimal numerals; and of
 -- names.
 -- Assumes nothing.
-use Rattle.base_lists.specs.Kit.{◌≡◌, ◌∙◌, sym, ap, refl, Bool, false, true, cond, List, [], ◌∷◌, ◌++◌, ℕ, ◌≤◌, ◌<◌, ◌+◌, suc, zero, ◌*◌, ◌^◌, ◌/◌, ◌%◌, le_of_eq, zero-add, pow-suc, ltb, length, get_or, drop, set, length-append, sets-eq, length-sets, arith, le-ltb, lt-ltb, ltb-false, ltb-true}
+use Rattle.std.specs.Prelude.{◌≡◌, ◌∷◌, ◌++◌, ◌≤◌, ◌<◌, ◌+◌, ◌*◌, ◌^◌, ◌/◌, ◌%◌}
+use Rattle.base_lists.specs.Kit.{◌∙◌, sym, ap, refl, Bool, false, true, cond, List, [], ℕ, suc, zero, le_of_eq, zero-add, pow-suc, ltb, length, get_or, drop, set, length-append, sets-eq, length-sets, arith, le-ltb, lt-ltb, ltb-false, ltb-true}
 use Rattle.base_lists.proofs.Tables.{get_d_tabulate, sets-append}
 use Rattle.base_text.specs.Text.{digits, decimal, bytes_of_four, digits_number, Names, Put, Fits}
 

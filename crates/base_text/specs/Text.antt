@@ -1,5 +1,6 @@
 -- Text as bytes: words and decimal numerals; and text written into a table from an offset on.
-use Rattle.base_lists.specs.Kit.{◌≡◌, cond, List, [], ◌∷◌, ◌++◌, ℕ, ◌≤◌, ◌+◌, suc, zero, ◌*◌, ◌/◌, ◌%◌, ltb, length, sets}
+use Rattle.std.specs.Prelude.{◌≡◌, ◌∷◌, ◌++◌, ◌≤◌, ◌+◌, ◌*◌, ◌/◌, ◌%◌}
+use Rattle.base_lists.specs.Kit.{cond, List, [], ℕ, suc, zero, ltb, length, sets}
 use Prim.Native.Char.{code}
 use Prim.Native.String.{String}
 use Prim.Native.String as string

@@ -1,5 +1,6 @@
 -- Small patterns with bounds, by computation. Assumes nothing.
-use Rattle.base_lists.specs.Kit.{◌≡◌, refl, [], ◌∷◌}
+use Rattle.std.specs.Prelude.{◌≡◌, ◌∷◌}
+use Rattle.base_lists.specs.Kit.{refl, []}
 use Rattle.base_lists.specs.Below.{keep_from}
 use Rattle.graph.specs.Circuit.{circuit}
 use Rattle.table.specs.Examples.{row_computed, answer_computed}

@@ -1,6 +1,7 @@
 -- The row of a pattern with bounds is that of closed sets whose labels are a direction and a bound; so its answer is the largest bounded
 -- simulation. Assumes nothing.
-use Rattle.base_lists.specs.Kit.{◌≡◌, refl, ◌↔◌, inl, inr, iff_rfl, iff_trans, List, ℕ, ◌≤◌, ◌<◌, suc, zero, eqb, eqb→eq, length, get_or, arith, eq-eqb}
+use Rattle.std.specs.Prelude.{◌≡◌, ◌↔◌, ◌≤◌, ◌<◌}
+use Rattle.base_lists.specs.Kit.{refl, inl, inr, iff_rfl, iff_trans, List, ℕ, suc, zero, eqb, eqb→eq, length, get_or, arith, eq-eqb}
 use Rattle.base_lists.specs.List.{Occurs}
 use Rattle.base_lists.proofs.Tests.{true-T}
 use Rattle.graph.specs.Circuit.{Circuit, HasLink, graph_of, circuit_graph}

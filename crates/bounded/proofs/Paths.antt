@@ -1,5 +1,6 @@
 -- Directed paths: followed backwards, and the ends of those of 1 to h links as a list. Assumes nothing.
-use Rattle.base_lists.specs.Kit.{◌≡◌, sym, refl, subst, ◌↔◌, ⊎_elim, ◌⊎◌, inl, inr, List, [], ◌∷◌, ℕ, ◌≤◌, ◌<◌, suc, zero, suc-le-suc, not-suc-le-zero, le_of_suc-le-suc, zero-lt-suc, le_trans, length, get_or, arith}
+use Rattle.std.specs.Prelude.{◌≡◌, ◌↔◌, ◌⊎◌, ◌∷◌, ◌≤◌, ◌<◌}
+use Rattle.base_lists.specs.Kit.{sym, refl, subst, ⊎_elim, inl, inr, List, [], ℕ, suc, zero, suc-le-suc, not-suc-le-zero, le_of_suc-le-suc, zero-lt-suc, le_trans, length, get_or, arith}
 use Rattle.base_lists.specs.List.{Occurs}
 use Rattle.graph.proofs.BfsScan.{occurs-append}
 use Rattle.simulation.specs.Closed.{Relation, ◌⊆◌}

@@ -1,5 +1,6 @@
 -- The counts of a pattern with bounds are those of its row of sets, and the table is the row's last set, or all 0. Assumes nothing.
-use Rattle.base_lists.specs.Kit.{◌≡◌, ◌∙◌, sym, subst, List, map, ℕ, ◌≤◌, ◌<◌, ◌+◌, suc, le_refl, length, arith}
+use Rattle.std.specs.Prelude.{◌≡◌, ◌≤◌, ◌<◌, ◌+◌}
+use Rattle.base_lists.specs.Kit.{◌∙◌, sym, subst, List, map, ℕ, suc, le_refl, length, arith}
 use lib.Count.{ones}
 use Rattle.base_lists.specs.List.{sum, tabulate}
 use Rattle.base_lists.proofs.Tests.{T_false}

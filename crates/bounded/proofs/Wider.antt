@@ -1,6 +1,7 @@
 -- Patterns that differ in their bounds alone: larger bounds ask no more; and where every bound is 1, what is asked is what the pattern without
 -- bounds asks. Assumes nothing.
-use Rattle.base_lists.specs.Kit.{◌≡◌, sym, ap, refl, subst, ap₂, inl, inr, List, ℕ, ◌≤◌, ◌-◌, le_refl, length, get_or, arith}
+use Rattle.std.specs.Prelude.{◌≡◌, ◌≤◌, ◌-◌}
+use Rattle.base_lists.specs.Kit.{sym, ap, refl, subst, ap₂, inl, inr, List, ℕ, le_refl, length, get_or, arith}
 use Rattle.base_lists.specs.List.{Occurs}
 use Rattle.base_lists.proofs.Tests.{both_true, both_right}
 use Rattle.graph.specs.Circuit.{Circuit, HasLink, graph_of, circuit_graph}

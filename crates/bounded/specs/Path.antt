@@ -1,5 +1,6 @@
 -- Directed paths: every link is followed from its start to its end. (graph/specs/Graph `Walk` is the other one, which ignores directions.)
-use Rattle.base_lists.specs.Kit.{ℕ, ◌≤◌, suc, zero}
+use Rattle.std.specs.Prelude.{◌≤◌}
+use Rattle.base_lists.specs.Kit.{ℕ, suc, zero}
 use Rattle.simulation.specs.Closed.{Relation}
 
 -- "a directed path of .. board links, end to end": of n links, from v to w. "which may pass a node more than once and may end where it

@@ -1,6 +1,7 @@
 -- The row of sets of a pattern with bounds on a whole board, and its answer: what the contracts cite. It is that of a problem as table_row has
 -- it. A label is a direction and a bound; a board's moves are the ends of directed paths of 1 to h links.
-use Rattle.base_lists.specs.Kit.{◌≡◌, List, [], ◌∷◌, ◌++◌, ℕ, ◌≤◌, ◌<◌, suc, zero, eqb, length, get_or}
+use Rattle.std.specs.Prelude.{◌≡◌, ◌∷◌, ◌++◌, ◌≤◌, ◌<◌}
+use Rattle.base_lists.specs.Kit.{List, [], ℕ, suc, zero, eqb, length, get_or}
 use Rattle.base_lists.specs.Below.{keep_from}
 use Rattle.graph.specs.Circuit.{Circuit, LinkAt}
 use Rattle.simulation.specs.Simulation.{Direction, forwards, backwards}

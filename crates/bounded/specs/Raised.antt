@@ -1,5 +1,6 @@
 -- Patterns that differ in their bounds alone, and patterns of which every bound is 1.
-use Rattle.base_lists.specs.Kit.{◌≡◌, List, ℕ, ◌≤◌, ◌<◌, length, get_or}
+use Rattle.std.specs.Prelude.{◌≡◌, ◌≤◌, ◌<◌}
+use Rattle.base_lists.specs.Kit.{List, ℕ, length, get_or}
 
 -- "raising a bound": as many bounds, each at least as large
 pub record Raised (bounds bounds' : List ℕ) : Type 0 where

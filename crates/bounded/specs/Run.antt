@@ -1,5 +1,6 @@
 -- The row of sets of a pattern with bounds on a board, on arbitrary sets, and how it is run: document 01's row with these steps and moves.
-use Rattle.base_lists.specs.Kit.{◌≡◌, ◌↔◌, List, map, ℕ, ◌≤◌, ◌<◌, suc}
+use Rattle.std.specs.Prelude.{◌≡◌, ◌↔◌, ◌≤◌, ◌<◌}
+use Rattle.base_lists.specs.Kit.{List, map, ℕ, suc}
 use Rattle.std.specs.Int.Count.{ones}
 use Rattle.base_lists.specs.List.{sum}
 use Rattle.graph.specs.Circuit.{Circuit, circuit_graph}

@@ -1,5 +1,6 @@
 -- The parts of a set whose mask lies within a union. Assumes nothing.
-use Rattle.base_lists.specs.Kit.{◌≡◌, ◌∙◌, sym, ap, Bool, false, true, cond, List, ℕ, ◌<◌, zero, ◌^◌, get_or}
+use Rattle.std.specs.Prelude.{◌≡◌, ◌<◌, ◌^◌}
+use Rattle.base_lists.specs.Kit.{◌∙◌, sym, ap, Bool, false, true, cond, List, ℕ, zero, get_or}
 use lib.Bits.{bit_or, or_zero_r}
 use Rattle.base_bits.specs.Bits.{Subset, subset_of, first_of, without_first}
 use Rattle.base_bits.proofs.Passing.{passing-none, passing-subset, passing-next}

@@ -1,5 +1,6 @@
 -- One pass over the nodes, and one layer after another: what the contracts of this crate cite.
-use Rattle.base_lists.specs.Kit.{◌&&◌, List, ℕ, length, get_or}
+use Rattle.std.specs.Prelude.{◌&&◌}
+use Rattle.base_lists.specs.Kit.{List, ℕ, length, get_or}
 use Rattle.std.specs.Int.Bits.{bit_or}
 use Rattle.base_lists.specs.List.{tabulate}
 use Rattle.base_bits.specs.Bits.{bit, number_of, subset_of, union_at}

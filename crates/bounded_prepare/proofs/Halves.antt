@@ -1,5 +1,6 @@
 -- The two halves of the masks. Assumes nothing.
-use Rattle.base_lists.specs.Kit.{◌≡◌, ◌∙◌, ap, List, ◌++◌, ℕ, length, take, drop, length-append, length-drop, length-take, length-take-le, arith}
+use Rattle.std.specs.Prelude.{◌≡◌, ◌++◌}
+use Rattle.base_lists.specs.Kit.{◌∙◌, ap, List, ℕ, length, take, drop, length-append, length-drop, length-take, length-take-le, arith}
 use Rattle.base_lists.proofs.Parts.{halved, part-first, part-second, length-halved}
 use Rattle.table.specs.Prepared.{masks_of}
 use Rattle.table.proofs.PreparedMasks.{length-masks}

@@ -1,5 +1,6 @@
 -- A layer has, at each node, the parts that occur at the ends of paths from there. Assumes nothing.
-use Rattle.base_lists.specs.Kit.{◌≡◌, ◌∙◌, sym, ap, refl, ap₂, List, [], ◌∷◌, ℕ, ◌<◌, suc, zero, suc-le-suc, zero-lt-suc, length, get_or}
+use Rattle.std.specs.Prelude.{◌≡◌, ◌∷◌, ◌<◌}
+use Rattle.base_lists.specs.Kit.{◌∙◌, sym, ap, refl, ap₂, List, [], ℕ, suc, zero, suc-le-suc, zero-lt-suc, length, get_or}
 use lib.Bits.{bit_or, or_zero_r}
 use Rattle.base_lists.specs.List.{Below}
 use Rattle.base_lists.proofs.Tables.{get_d_tabulate, tabulate-same}

@@ -1,5 +1,6 @@
 -- How many pairs a table has, counted from the front. Assumes nothing.
-use Rattle.base_lists.specs.Kit.{◌≡◌, ap, List, ℕ, ◌≤◌, ◌<◌, ◌+◌, add-one, length, get_or, drop, drop_of_length-le, drop-cons}
+use Rattle.std.specs.Prelude.{◌≡◌, ◌≤◌, ◌<◌, ◌+◌}
+use Rattle.base_lists.specs.Kit.{ap, List, ℕ, add-one, length, get_or, drop, drop_of_length-le, drop-cons}
 use Rattle.base_lists.specs.List.{sum}
 use Rattle.base_bits.specs.Bits.{size_of}
 use Rattle.table_row.specs.Row.{pairs}

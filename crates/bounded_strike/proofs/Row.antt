@@ -1,5 +1,6 @@
 -- A round of passes is the striking of the row, where the tables are those of a pattern, its bounds and a board. Assumes nothing.
-use Rattle.base_lists.specs.Kit.{◌≡◌, ◌∙◌, sym, ap, refl, subst, ap₂, Bool, true, ◌&&◌, and-true, and_assoc, List, [], ◌∷◌, ℕ, ◌≤◌, ◌<◌, ◌+◌, ◌-◌, suc, zero, ◌*◌, ◌^◌, lt_of_lt_of_le, eqb, eqb→eq, length, get_or, get_or-eq_default, arith}
+use Rattle.std.specs.Prelude.{◌≡◌, ◌&&◌, ◌∷◌, ◌≤◌, ◌<◌, ◌+◌, ◌-◌, ◌*◌, ◌^◌}
+use Rattle.base_lists.specs.Kit.{◌∙◌, sym, ap, refl, subst, ap₂, Bool, true, and-true, and_assoc, List, [], ℕ, suc, zero, lt_of_lt_of_le, eqb, eqb→eq, length, get_or, get_or-eq_default, arith}
 use native.Mathlib.Decide.{dec_lt}
 use lib.Pow.{pow_pos}
 use Rattle.base_lists.specs.List.{tabulate, part, Below, Occurs}

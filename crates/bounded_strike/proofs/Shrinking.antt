@@ -1,5 +1,6 @@
 -- A round takes pairs away and adds none. Assumes nothing.
-use Rattle.base_lists.specs.Kit.{◌≡◌, ◌∙◌, refl, subst, List, ℕ, ◌<◌, suc, zero, ◌*◌, lt_of_le_of_lt, T, length, get_or, get_or-eq_default, arith}
+use Rattle.std.specs.Prelude.{◌≡◌, ◌<◌, ◌*◌}
+use Rattle.base_lists.specs.Kit.{◌∙◌, refl, subst, List, ℕ, suc, zero, lt_of_le_of_lt, T, length, get_or, get_or-eq_default, arith}
 use native.Mathlib.Decide.{dec_lt}
 use Rattle.base_lists.specs.List.{part}
 use Rattle.base_lists.proofs.Tests.{false-T}

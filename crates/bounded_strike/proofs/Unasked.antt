@@ -1,5 +1,6 @@
 -- Where no mask asks for anything, every set is kept. Assumes nothing.
-use Rattle.base_lists.specs.Kit.{◌≡◌, ◌∙◌, sym, ap, refl, Bool, true, ◌&&◌, and-true, List, ℕ, ◌<◌, eqb, eqb-true, length, get_or, arith}
+use Rattle.std.specs.Prelude.{◌≡◌, ◌&&◌, ◌<◌}
+use Rattle.base_lists.specs.Kit.{◌∙◌, sym, ap, refl, Bool, true, and-true, List, ℕ, eqb, eqb-true, length, get_or, arith}
 use Rattle.base_lists.specs.List.{tabulate}
 use Rattle.base_lists.proofs.Tests.{T_true, true-T, all-at}
 use Rattle.base_lists.proofs.Tables.{is-tabulate}

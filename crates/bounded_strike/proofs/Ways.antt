@@ -1,5 +1,6 @@
 -- The passes of one direction, one bound after another. Assumes nothing.
-use Rattle.base_lists.specs.Kit.{◌≡◌, ◌∙◌, ap, ap₂, List, ℕ, suc, ◌*◌}
+use Rattle.std.specs.Prelude.{◌≡◌, ◌*◌}
+use Rattle.base_lists.specs.Kit.{◌∙◌, ap, ap₂, List, ℕ, suc}
 use Rattle.base_lists.specs.List.{part}
 use Rattle.bounded_layer.specs.Pass.{pass_table, next_layer}
 use Rattle.bounded_strike.specs.Round.{layer_of, passes}

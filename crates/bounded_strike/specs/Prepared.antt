@@ -1,6 +1,7 @@
 -- What striking with bounds looks up: when masks and neighbour tables are those of a pattern, its bounds and a board. One list has 256 masks:
 -- for each bound from 1 to 4, for each of 32 parts, the parts that it drives by a link of that bound; and then for each those that drive it so.
-use Rattle.base_lists.specs.Kit.{◌≡◌, List, ℕ, ◌≤◌, ◌<◌, ◌+◌, ◌-◌, ◌*◌, length, get_or}
+use Rattle.std.specs.Prelude.{◌≡◌, ◌≤◌, ◌<◌, ◌+◌, ◌-◌, ◌*◌}
+use Rattle.base_lists.specs.Kit.{List, ℕ, length, get_or}
 use Rattle.base_lists.specs.List.{tabulate, part, Below}
 use Rattle.graph.specs.Circuit.{Circuit}
 use Rattle.graph.specs.Net.{NetOf}

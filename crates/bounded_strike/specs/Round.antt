@@ -1,6 +1,7 @@
 -- One round of striking as the program does it, over neighbour tables and masks: what the contracts of the inner functions cite. proofs/Row
 -- ties it to the row of sets.
-use Rattle.base_lists.specs.Kit.{◌≡◌, List, ℕ, ◌≤◌, suc, zero, ◌*◌, length}
+use Rattle.std.specs.Prelude.{◌≡◌, ◌≤◌, ◌*◌}
+use Rattle.base_lists.specs.Kit.{List, ℕ, suc, zero, length}
 use Rattle.base_lists.specs.List.{part}
 use Rattle.base_bits.specs.Bits.{Words}
 use Rattle.graph.specs.Net.{Net}

@@ -1,5 +1,6 @@
 -- The loop of rounds: from one table to the next, until a round strikes nothing. Assumes nothing.
-use Rattle.base_lists.specs.Kit.{◌≡◌, ◌∙◌, sym, ap, refl, ⊎_elim, ◌⊎◌, List, ℕ, ◌≤◌, ◌<◌, ◌+◌, suc, not-suc-le-zero, le_refl, add-one, arith}
+use Rattle.std.specs.Prelude.{◌≡◌, ◌⊎◌, ◌≤◌, ◌<◌, ◌+◌}
+use Rattle.base_lists.specs.Kit.{◌∙◌, sym, ap, refl, ⊎_elim, List, ℕ, suc, not-suc-le-zero, le_refl, add-one, arith}
 use borrow.Author.Count.{below_more}
 use Rattle.table_row.specs.Row.{in_table}
 use Rattle.table_row.proofs.Sets.{pairs-progress}

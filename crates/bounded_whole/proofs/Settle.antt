@@ -1,5 +1,6 @@
 -- Where the rounds settle is the end of the row: its last set and its counts; and with the all-0 rule the answer. Assumes nothing.
-use Rattle.base_lists.specs.Kit.{◌≡◌, ◌∙◌, sym, ap, refl, subst, Bool, false, true, cond, ◌&&◌, List, ◌++◌, ℕ, ◌≤◌, ◌<◌, suc, T, length, take, length-append, take_at, arith}
+use Rattle.std.specs.Prelude.{◌≡◌, ◌&&◌, ◌++◌, ◌≤◌, ◌<◌}
+use Rattle.base_lists.specs.Kit.{◌∙◌, sym, ap, refl, subst, Bool, false, true, cond, List, ℕ, suc, T, length, take, length-append, take_at, arith}
 use Rattle.base_lists.specs.List.{tabulate}
 use Rattle.base_lists.proofs.Tests.{T_true, true-T}
 use Rattle.base_lists.proofs.Tables.{tabulate-same}

@@ -1,5 +1,6 @@
 -- The row of a pattern with bounds on a whole board: what the functions below the answer promise.
-use Rattle.base_lists.specs.Kit.{◌≡◌, List, ℕ}
+use Rattle.std.specs.Prelude.{◌≡◌}
+use Rattle.base_lists.specs.Kit.{List, ℕ}
 use Rattle.graph.specs.Circuit.{Circuit, circuit}
 use Rattle.table_row.specs.Row.{started_of, last_of, kept_of, struck_of, rounds_of}
 use Rattle.table.specs.declared.Counts.{Counts}

@@ -1,5 +1,6 @@
 -- What the call comes to, by cases: a refused file, a centre outside, too few bytes, or what is found. Assumes nothing.
-use Rattle.base_lists.specs.Kit.{◌≡◌, ◌∙◌, sym, ap, List, ℕ, ◌≤◌, ◌<◌, length, le-ltb, lt-ltb}
+use Rattle.std.specs.Prelude.{◌≡◌, ◌≤◌, ◌<◌}
+use Rattle.base_lists.specs.Kit.{◌∙◌, sym, ap, List, ℕ, length, le-ltb, lt-ltb}
 use Rattle.graph.specs.Circuit.{Circuit}
 use Rattle.graph.specs.Search.{radius}
 use Rattle.file_format.specs.declared.File.TheVariants.{Neither}

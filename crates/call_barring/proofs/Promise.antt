@@ -1,6 +1,7 @@
 -- What the promise of the call means: 15 exactly where the centre has a place; else the bytes mark links that bar, of
 -- which none can be spared. Assumes nothing.
-use Rattle.base_lists.specs.Kit.{◌≡◌, ◌∙◌, sym, ap, ◌↔◌, ⊎_elim, List, [], ◌∷◌, ◌++◌, ℕ, ◌≤◌, ◌<◌, T, length, take, drop, take_at, drop_at, le-ltb, lt-ltb}
+use Rattle.std.specs.Prelude.{◌≡◌, ◌↔◌, ◌∷◌, ◌++◌, ◌≤◌, ◌<◌}
+use Rattle.base_lists.specs.Kit.{◌∙◌, sym, ap, ⊎_elim, List, [], ℕ, T, length, take, drop, take_at, drop_at, le-ltb, lt-ltb}
 use Rattle.base_lists.proofs.Tests.{T_true, T_false, false-T, decide}
 use Rattle.graph.specs.Chosen.{ChosenLink}
 use Rattle.graph.specs.Circuit.{Circuit, circuit_graph}

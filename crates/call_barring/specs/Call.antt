@@ -1,6 +1,7 @@
 -- The call that finds the least that still says none, whole: the reply, and the lent bytes' later content, from the
 -- inputs alone.
-use Rattle.base_lists.specs.Kit.{Bool, List, [], ◌∷◌, ◌++◌, ℕ, length}
+use Rattle.std.specs.Prelude.{◌∷◌, ◌++◌}
+use Rattle.base_lists.specs.Kit.{Bool, List, [], ℕ, length}
 use Rattle.graph.specs.Circuit.{Circuit}
 use Rattle.file_format.specs.Circuit.{circuit_of}
 use Rattle.file_format.specs.declared.Role.TheVariants.{Pattern}

@@ -1,7 +1,8 @@
 -- What the exported call's promise means: a refusal is one of the conditions; else the table holds the largest bounded
 -- simulation of the pattern in the board, and the counts are those of the row. All bounds 1 give what the second
 -- edition gives. Assumes nothing.
-use Rattle.base_lists.specs.Kit.{◌≡◌, ◌∙◌, sym, refl, List, [], ◌∷◌, ◌++◌, map, append_assoc, ℕ, ◌≤◌, ◌+◌, length, take, drop, take_at, drop_at, arith, le-ltb}
+use Rattle.std.specs.Prelude.{◌≡◌, ◌∷◌, ◌++◌, ◌≤◌, ◌+◌}
+use Rattle.base_lists.specs.Kit.{◌∙◌, sym, refl, List, [], map, append_assoc, ℕ, length, take, drop, take_at, drop_at, arith, le-ltb}
 use lib.Count.{ones}
 use Rattle.base_lists.specs.List.{sum}
 use Rattle.base_lists.proofs.Tests.{true-T}

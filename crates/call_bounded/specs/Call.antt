@@ -1,6 +1,7 @@
 -- The exported call on a third-edition pattern file and a board file, whole: its reply and the table's later content,
 -- from the inputs alone.
-use Rattle.base_lists.specs.Kit.{List, [], ◌∷◌, ◌++◌, ℕ, length}
+use Rattle.std.specs.Prelude.{◌∷◌, ◌++◌}
+use Rattle.base_lists.specs.Kit.{List, [], ℕ, length}
 use Rattle.graph.specs.Circuit.{Circuit}
 use Rattle.file_format.specs.declared.Role.TheVariants.{Board}
 use Rattle.file_format.specs.Circuit.{circuit_of}

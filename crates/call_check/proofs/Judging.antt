@@ -1,6 +1,7 @@
 -- What the call comes to, by cases: a refused file, a centre outside, bytes of another length, or yes or no. Assumes
 -- nothing.
-use Rattle.base_lists.specs.Kit.{◌≡◌, ◌∙◌, sym, ap, refl, Bool, false, true, List, [], ◌∷◌, ℕ, length}
+use Rattle.std.specs.Prelude.{◌≡◌, ◌∷◌}
+use Rattle.base_lists.specs.Kit.{◌∙◌, sym, ap, refl, Bool, false, true, List, [], ℕ, length}
 use Rattle.graph.specs.Circuit.{Circuit}
 use Rattle.graph.specs.Search.{radius}
 use Rattle.file_format.specs.declared.Role.TheVariants.{Pattern}

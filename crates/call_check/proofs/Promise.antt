@@ -1,6 +1,7 @@
 -- What the promise of the exported call means: a refusal is a condition on the inputs; else yes exactly when the bytes
 -- mark a perfect subgraph around the centre at the pattern's radius. Assumes nothing.
-use Rattle.base_lists.specs.Kit.{◌≡◌, ◌∙◌, sym, ap, ◌↔◌, ⊎_elim, ◌⊎◌, inl, inr, iff_trans, Bool, false, true, List, [], ◌∷◌, ℕ, ◌<◌, T, eqb, ltb, length, get_or, arith, eq-eqb, lt-ltb, eqb-true, not-false, ltb-true}
+use Rattle.std.specs.Prelude.{◌≡◌, ◌↔◌, ◌⊎◌, ◌∷◌, ◌<◌}
+use Rattle.base_lists.specs.Kit.{◌∙◌, sym, ap, ⊎_elim, inl, inr, iff_trans, Bool, false, true, List, [], ℕ, T, eqb, ltb, length, get_or, arith, eq-eqb, lt-ltb, eqb-true, not-false, ltb-true}
 use Rattle.base_lists.proofs.Tests.{T_true, T_false, decide}
 use Rattle.graph.specs.Circuit.{Circuit, circuit_graph}
 use Rattle.graph.specs.Graph.{Radius}

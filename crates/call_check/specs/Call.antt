@@ -1,5 +1,6 @@
 -- The call that checks a place from elsewhere, whole: the reply, from the inputs alone. Nothing is lent.
-use Rattle.base_lists.specs.Kit.{Bool, false, true, cond, List, [], ◌∷◌, ◌++◌, ℕ, length}
+use Rattle.std.specs.Prelude.{◌∷◌, ◌++◌}
+use Rattle.base_lists.specs.Kit.{Bool, false, true, cond, List, [], ℕ, length}
 use Rattle.graph.specs.Circuit.{Circuit}
 use Rattle.file_format.specs.declared.Role.TheVariants.{Pattern}
 use Rattle.file_format.specs.Circuit.{circuit_of}

@@ -1,5 +1,6 @@
 -- What the converter comes to, by cases: a refused file, a package that would be lost, too few bytes lent, or the new file. Assumes nothing.
-use Rattle.base_lists.specs.Kit.{◌≡◌, ◌∙◌, sym, ap, refl, false, true, List, ◌++◌, ℕ, ◌≤◌, ◌<◌, le_trans, length, get_or, take, drop, length-take-le, take_at, get_or-take, arith, le-ltb, lt-ltb}
+use Rattle.std.specs.Prelude.{◌≡◌, ◌++◌, ◌≤◌, ◌<◌}
+use Rattle.base_lists.specs.Kit.{◌∙◌, sym, ap, refl, false, true, List, ℕ, le_trans, length, get_or, take, drop, length-take-le, take_at, get_or-take, arith, le-ltb, lt-ltb}
 use native.Mathlib.Decide.{dec_lt}
 use Rattle.base_lists.specs.List.{Below}
 use Rattle.base_lists.proofs.Tables.{length-tabulate, is-tabulate}

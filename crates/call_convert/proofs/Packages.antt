@@ -1,5 +1,6 @@
 -- Packages other than 0, and whether an edition loses them. Assumes nothing.
-use Rattle.base_lists.specs.Kit.{◌≡◌, refl, subst, ⊎_elim, false, true, not, List, ℕ, ◌<◌, T, eqb, eqb→eq, length, get_or, get_or-eq_default, arith, not_T}
+use Rattle.std.specs.Prelude.{◌≡◌, ◌<◌}
+use Rattle.base_lists.specs.Kit.{refl, subst, ⊎_elim, false, true, not, List, ℕ, T, eqb, eqb→eq, length, get_or, get_or-eq_default, arith, not_T}
 use native.Mathlib.Decide.{dec_lt}
 use Rattle.base_lists.proofs.Tests.{T_true, T_false, false-T, decide, any_at, at-any}
 use Rattle.file_format.specs.declared.Edition.{Edition}

@@ -1,6 +1,7 @@
 -- What the converter's promise means: the new file is accepted, holds the circuit of the old one, and there and back again gives the same
 -- bytes. Assumes nothing.
-use Rattle.base_lists.specs.Kit.{◌≡◌, ◌∙◌, sym, ap, refl, ap₂, false, List, [], ◌∷◌, ◌++◌, ℕ, ◌≤◌, ◌<◌, le_of_eq, T, ltb, length, get_or, take, drop, take_at, take_all, arith, le-ltb, ltb-false}
+use Rattle.std.specs.Prelude.{◌≡◌, ◌∷◌, ◌++◌, ◌≤◌, ◌<◌}
+use Rattle.base_lists.specs.Kit.{◌∙◌, sym, ap, refl, ap₂, false, List, [], ℕ, le_of_eq, T, ltb, length, get_or, take, drop, take_at, take_all, arith, le-ltb, ltb-false}
 use Rattle.base_lists.specs.List.{all, tabulate}
 use Rattle.base_lists.proofs.Tables.{get_d_tabulate, is-tabulate, tabulate-same}
 use Rattle.file_format.specs.declared.Edition.{Edition}

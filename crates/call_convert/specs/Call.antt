@@ -1,5 +1,6 @@
 -- The converter, whole: its reply and the later content of the bytes lent, from the inputs alone.
-use Rattle.base_lists.specs.Kit.{List, [], ◌∷◌, ◌++◌, ℕ, length, get_or}
+use Rattle.std.specs.Prelude.{◌∷◌, ◌++◌}
+use Rattle.base_lists.specs.Kit.{List, [], ℕ, length, get_or}
 use Rattle.base_lists.specs.List.{tabulate}
 use Rattle.file_format.specs.declared.Edition.{Edition}
 use Rattle.file_format.specs.declared.Role.{Role}

@@ -1,5 +1,6 @@
 -- What the conditions on a centre and on the lengths of what is lent say. Assumes nothing.
-use Rattle.base_lists.specs.Kit.{◌≡◌, ◌∙◌, sym, ap, ℕ, ◌≤◌, ◌<◌, le-ltb, ltb-false, ltb-true, eqb-true, not-false}
+use Rattle.std.specs.Prelude.{◌≡◌, ◌≤◌, ◌<◌}
+use Rattle.base_lists.specs.Kit.{◌∙◌, sym, ap, ℕ, le-ltb, ltb-false, ltb-true, eqb-true, not-false}
 use Rattle.file_format.specs.declared.FileVerdict.{FileVerdict}
 use Rattle.file_format.specs.declared.FileVerdict.TheVariants.{Accepted, Refused}
 use Rattle.file_format.specs.declared.Refusal.{Refusal}

@@ -1,5 +1,6 @@
 -- What a call decides by numbers alone, once its files are read.
-use Rattle.base_lists.specs.Kit.{List, [], ◌∷◌, ℕ}
+use Rattle.std.specs.Prelude.{◌∷◌}
+use Rattle.base_lists.specs.Kit.{List, [], ℕ}
 use Rattle.file_format.specs.declared.File.TheVariants.{Neither}
 use Rattle.file_format.specs.declared.Refusal.{Refusal}
 use Rattle.file_format.specs.Refusals.{Condition, centre_outside, short_table, other_length}

@@ -1,5 +1,6 @@
 -- What the two calls come to, by cases of the conditions. Assumes nothing.
-use Rattle.base_lists.specs.Kit.{◌≡◌, sym, ap, List, [], ◌∷◌, ◌++◌, ℕ, ◌≤◌, ◌<◌, length, take, drop, le-ltb, lt-ltb}
+use Rattle.std.specs.Prelude.{◌≡◌, ◌∷◌, ◌++◌, ◌≤◌, ◌<◌}
+use Rattle.base_lists.specs.Kit.{sym, ap, List, [], ℕ, length, take, drop, le-ltb, lt-ltb}
 use Rattle.graph.specs.Circuit.{Circuit}
 use Rattle.graph.specs.Search.{distances, radius}
 use Rattle.graph.proofs.Distance.{length-distances}

@@ -1,5 +1,6 @@
 -- Document 01's examples of the two calls, from the bytes of their files. Assumes nothing.
-use Rattle.base_lists.specs.Kit.{◌≡◌, refl, List, [], ◌∷◌, ℕ}
+use Rattle.std.specs.Prelude.{◌≡◌, ◌∷◌}
+use Rattle.base_lists.specs.Kit.{refl, List, [], ℕ}
 use Rattle.base_lists.specs.List.{all, all_below, tabulate, maximum}
 use Rattle.graph.specs.Search.{beside, inside, ball, misses, distances, connected, radius}
 use Rattle.file_format.specs.declared.Edition.TheVariants.{First}

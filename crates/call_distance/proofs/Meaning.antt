@@ -1,5 +1,6 @@
 -- What the replies and the entries of the two calls mean, in the terms of the graph's definitions. Assumes nothing.
-use Rattle.base_lists.specs.Kit.{◌≡◌, ◌∙◌, sym, ap, subst, ◌↔◌, ⊎_elim, ◌≢◌, List, [], ◌∷◌, ℕ, ◌≤◌, ◌<◌, length, get_or, drop, get_or-append, arith}
+use Rattle.std.specs.Prelude.{◌≡◌, ◌↔◌, ◌≢◌, ◌∷◌, ◌≤◌, ◌<◌}
+use Rattle.base_lists.specs.Kit.{◌∙◌, sym, ap, subst, ⊎_elim, List, [], ℕ, length, get_or, drop, get_or-append, arith}
 use Rattle.base_lists.proofs.Tests.{decide}
 use Rattle.graph.specs.Circuit.{HasLink, graph_of}
 use Rattle.graph.specs.Graph.{Radius, Distance, DistanceEntry, InBall, Ball}

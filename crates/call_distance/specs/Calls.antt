@@ -1,5 +1,6 @@
 -- The radius call and the ball lookup, whole: the reply, and the lent table's later content, from the inputs alone.
-use Rattle.base_lists.specs.Kit.{List, [], ◌∷◌, ◌++◌, ℕ, length}
+use Rattle.std.specs.Prelude.{◌∷◌, ◌++◌}
+use Rattle.base_lists.specs.Kit.{List, [], ℕ, length}
 use Rattle.graph.specs.Circuit.{graph_of}
 use Rattle.graph.specs.Graph.{Graph}
 use Rattle.graph.specs.Search.{distances, radius}

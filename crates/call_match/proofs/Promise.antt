@@ -1,6 +1,7 @@
 -- What the exported call's promise means: a refusal is one of the conditions; else the table holds the largest dual
 -- simulation of the pattern in the board, and the counts are those of the row. Assumes nothing.
-use Rattle.base_lists.specs.Kit.{◌≡◌, ◌∙◌, sym, ap, refl, subst, ◌↔◌, ⊎_elim, Bool, false, true, cond, not, List, ◌++◌, map, ℕ, ◌≤◌, ◌<◌, ◌+◌, ◌-◌, T, eqb, ltb, length, get_or, take, drop, get_or-append, take_at, drop_at, get_or-take, get_or-append-add, arith, le-ltb}
+use Rattle.std.specs.Prelude.{◌≡◌, ◌↔◌, ◌++◌, ◌≤◌, ◌<◌, ◌+◌, ◌-◌}
+use Rattle.base_lists.specs.Kit.{◌∙◌, sym, ap, refl, subst, ⊎_elim, Bool, false, true, cond, not, List, map, ℕ, T, eqb, ltb, length, get_or, take, drop, get_or-append, take_at, drop_at, get_or-take, get_or-append-add, arith, le-ltb}
 use lib.Count.{ones}
 use Rattle.base_lists.specs.List.{sum}
 use Rattle.base_lists.proofs.Tests.{not-true-false, lt-or-le}

@@ -1,5 +1,6 @@
 -- The exported call on two files, whole: its reply and the table's later content, from the inputs alone.
-use Rattle.base_lists.specs.Kit.{◌≡◌, List, [], ◌∷◌, ◌++◌, ℕ, length}
+use Rattle.std.specs.Prelude.{◌≡◌, ◌∷◌, ◌++◌}
+use Rattle.base_lists.specs.Kit.{List, [], ℕ, length}
 use Rattle.graph.specs.Circuit.{Circuit, circuit}
 use Rattle.simulation.specs.Simulation.{Direction}
 use Rattle.file_format.specs.declared.Role.TheVariants.{Pattern, Board, AnyPattern}

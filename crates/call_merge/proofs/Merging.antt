@@ -1,6 +1,7 @@
 -- What the merging call comes to, by cases: a refused pattern, a short table of classes, too few bytes for the file, or the merged pattern.
 -- Assumes nothing.
-use Rattle.base_lists.specs.Kit.{◌≡◌, ◌∙◌, sym, ap, subst, List, [], ◌++◌, ℕ, ◌≤◌, ◌<◌, length, get_or, take, drop, le-ltb, lt-ltb}
+use Rattle.std.specs.Prelude.{◌≡◌, ◌++◌, ◌≤◌, ◌<◌}
+use Rattle.base_lists.specs.Kit.{◌∙◌, sym, ap, subst, List, [], ℕ, length, get_or, take, drop, le-ltb, lt-ltb}
 use Rattle.graph.specs.Circuit.{Circuit}
 use Rattle.file_format.specs.declared.Edition.{Edition}
 use Rattle.file_format.specs.declared.Edition.TheVariants.{First, Second}

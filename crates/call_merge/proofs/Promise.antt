@@ -1,7 +1,8 @@
 -- What the merging call's promise means, of its own reply and bytes: a refusal is one of the conditions and keeps both tables; else the
 -- merged file is an accepted pattern file that holds the merged pattern, and the class bytes are the classes of mutual matching, numbered
 -- by their smallest part. Assumes nothing.
-use Rattle.base_lists.specs.Kit.{◌≡◌, ◌∙◌, sym, ap, refl, ◌↔◌, true, ◌&&◌, List, [], ◌∷◌, ◌++◌, ℕ, ◌≤◌, ◌<◌, le_antisymm, leb, le→leb, length, take, drop, get_or-append, take_at, drop_at, arith, eq-eqb, le-ltb}
+use Rattle.std.specs.Prelude.{◌≡◌, ◌↔◌, ◌&&◌, ◌∷◌, ◌++◌, ◌≤◌, ◌<◌}
+use Rattle.base_lists.specs.Kit.{◌∙◌, sym, ap, refl, true, List, [], ℕ, le_antisymm, leb, le→leb, length, take, drop, get_or-append, take_at, drop_at, arith, eq-eqb, le-ltb}
 use Rattle.base_lists.proofs.Tests.{T_true, both_true}
 use Rattle.graph.specs.Circuit.{Circuit, circuit_graph}
 use Rattle.simulation.specs.Closed.{Relation}

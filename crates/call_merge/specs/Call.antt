@@ -1,5 +1,6 @@
 -- The merging call, whole: its reply and the later content of both lent tables, from the inputs alone.
-use Rattle.base_lists.specs.Kit.{List, [], ◌∷◌, ◌++◌, ℕ, length}
+use Rattle.std.specs.Prelude.{◌∷◌, ◌++◌}
+use Rattle.base_lists.specs.Kit.{List, [], ℕ, length}
 use Rattle.graph.specs.Circuit.{Circuit}
 use Rattle.file_format.specs.declared.Edition.{Edition}
 use Rattle.file_format.specs.declared.Role.TheVariants.{Pattern}

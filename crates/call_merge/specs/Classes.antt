@@ -1,5 +1,6 @@
 -- The classes that the merging call gives, in terms of the bytes that it leaves.
-use Rattle.base_lists.specs.Kit.{◌≡◌, List, ℕ, ◌≤◌, ◌<◌, get_or}
+use Rattle.std.specs.Prelude.{◌≡◌, ◌≤◌, ◌<◌}
+use Rattle.base_lists.specs.Kit.{List, ℕ, get_or}
 use Rattle.file_format.specs.Layout.{CircuitFile, nodes_of}
 use Rattle.call_merge.specs.Call.{merging}
 

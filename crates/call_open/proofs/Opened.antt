@@ -1,5 +1,6 @@
 -- What opening two files comes to, by cases, and what a piece knows of files that were opened. Assumes nothing.
-use Rattle.base_lists.specs.Kit.{◌≡◌, ◌∙◌, sym, ap, List, ◌++◌, ℕ, ◌≤◌, ◌<◌, le_trans, length, take, drop, length-append, length-drop, length-take-le, take_at, arith}
+use Rattle.std.specs.Prelude.{◌≡◌, ◌++◌, ◌≤◌, ◌<◌}
+use Rattle.base_lists.specs.Kit.{◌∙◌, sym, ap, List, ℕ, le_trans, length, take, drop, length-append, length-drop, length-take-le, take_at, arith}
 use Rattle.file_format.specs.declared.FileVerdict.TheVariants as told
 use Rattle.file_format.specs.declared.Refusal.{Refusal}
 use Rattle.file_format.specs.declared.Role.TheVariants.{Pattern}

@@ -1,5 +1,6 @@
 -- Two files that were opened for their report: what a piece is put from, so that the pieces of a long report read and match once.
-use Rattle.base_lists.specs.Kit.{◌≡◌, List, ℕ, ◌≤◌, length, take}
+use Rattle.std.specs.Prelude.{◌≡◌, ◌≤◌}
+use Rattle.base_lists.specs.Kit.{List, ℕ, length, take}
 use Rattle.graph.specs.Circuit.{Circuit}
 use Rattle.file_format.specs.declared.Role.TheVariants.{Pattern}
 use Rattle.file_format.specs.Circuit.{circuit_of, Drawn}

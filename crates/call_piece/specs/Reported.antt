@@ -1,5 +1,6 @@
 -- What the call comes to on two files that were opened.
-use Rattle.base_lists.specs.Kit.{◌≡◌, List, ℕ}
+use Rattle.std.specs.Prelude.{◌≡◌}
+use Rattle.base_lists.specs.Kit.{List, ℕ}
 use Rattle.file_format.specs.Layout.{CircuitFile}
 use Rattle.file_pair.specs.declared.Pair.{Pair}
 use Rattle.table.specs.Prepared.{Tables}

@@ -1,5 +1,6 @@
 -- What the call comes to, by cases: a refused file, a centre outside, a short table, or what is found. Assumes nothing.
-use Rattle.base_lists.specs.Kit.{◌≡◌, ◌∙◌, sym, ap, List, ℕ, length, take}
+use Rattle.std.specs.Prelude.{◌≡◌}
+use Rattle.base_lists.specs.Kit.{◌∙◌, sym, ap, List, ℕ, length, take}
 use Rattle.graph.specs.Circuit.{Circuit}
 use Rattle.file_format.specs.declared.Role.TheVariants.{Pattern}
 use Rattle.file_format.specs.declared.FileVerdict.{FileVerdict}

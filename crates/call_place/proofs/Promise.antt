@@ -1,7 +1,8 @@
 -- What the promise of the exported calls means: a refusal is a condition on the inputs, or there is no perfect
 -- subgraph; else what the tables mark is the place, and the table is the largest dual simulation in it. Assumes
 -- nothing.
-use Rattle.base_lists.specs.Kit.{◌≡◌, ◌∙◌, sym, ap, ◌↔◌, ⊎_elim, ◌⊎◌, inl, inr, List, ◌++◌, ℕ, ◌≤◌, ◌<◌, T, ltb, length, get_or, take, drop, get_or-append, take_at, drop_at, arith, lt-ltb, not-false, ltb-true}
+use Rattle.std.specs.Prelude.{◌≡◌, ◌↔◌, ◌⊎◌, ◌++◌, ◌≤◌, ◌<◌}
+use Rattle.base_lists.specs.Kit.{◌∙◌, sym, ap, ⊎_elim, inl, inr, List, ℕ, T, ltb, length, get_or, take, drop, get_or-append, take_at, drop_at, arith, lt-ltb, not-false, ltb-true}
 use Rattle.base_lists.proofs.Tests.{T_true, T_false, decide}
 use Rattle.graph.specs.Circuit.{Circuit, circuit_graph}
 use Rattle.graph.specs.Graph.{Graph, DistanceEntry}

@@ -1,5 +1,6 @@
 -- The calls that find a place, whole: the reply, and each lent table's later content, from the inputs alone.
-use Rattle.base_lists.specs.Kit.{List, ◌++◌, ℕ, length}
+use Rattle.std.specs.Prelude.{◌++◌}
+use Rattle.base_lists.specs.Kit.{List, ℕ, length}
 use Rattle.graph.specs.Circuit.{Circuit}
 use Rattle.file_format.specs.declared.Role.TheVariants.{Pattern}
 use Rattle.file_format.specs.Circuit.{circuit_of}

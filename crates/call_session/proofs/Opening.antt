@@ -1,5 +1,6 @@
 -- The tables that opening fills hold a fresh machine. Assumes nothing.
-use Rattle.base_lists.specs.Kit.{◌≡◌, ◌∙◌, sym, ap, refl, Bool, false, true, cond, List, ◌++◌, ℕ, ◌<◌, ◌+◌, ◌-◌, ltb, length, get_or, take, drop, replicate, get_or-eq_default, length-replicate, get_or-replicate, get_or-append, take_at, get_or-drop, get_or-append-add, arith, ltb-false, ltb-true}
+use Rattle.std.specs.Prelude.{◌≡◌, ◌++◌, ◌<◌, ◌+◌, ◌-◌}
+use Rattle.base_lists.specs.Kit.{◌∙◌, sym, ap, refl, Bool, false, true, cond, List, ℕ, ltb, length, get_or, take, drop, replicate, get_or-eq_default, length-replicate, get_or-replicate, get_or-append, take_at, get_or-drop, get_or-append-add, arith, ltb-false, ltb-true}
 use Rattle.base_lists.specs.List.{Below}
 use Rattle.base_lists.proofs.Tables.{length-tabulate}
 use Rattle.base_lists.proofs.Entries.{all-below, get_d_any, all-below-wider}

@@ -1,5 +1,6 @@
 -- What the calls of a session promise together, for every list of cuts from a fresh one. Assumes nothing.
-use Rattle.base_lists.specs.Kit.{◌≡◌, refl, List, [], ◌∷◌, ◌++◌, ℕ, ◌≤◌, length, drop, le-ltb}
+use Rattle.std.specs.Prelude.{◌≡◌, ◌∷◌, ◌++◌, ◌≤◌}
+use Rattle.base_lists.specs.Kit.{refl, List, [], ℕ, length, drop, le-ltb}
 use Rattle.file_format.specs.Circuit.{circuit_of}
 use Rattle.file_format.specs.Layout.{CircuitFile}
 use Rattle.file_format.specs.Reading.{filled}

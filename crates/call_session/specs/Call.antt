@@ -1,5 +1,6 @@
 -- Opening a session on two files, whole: its reply, and what the lent tables hold then.
-use Rattle.base_lists.specs.Kit.{◌≡◌, List, [], ◌∷◌, ◌++◌, length, drop}
+use Rattle.std.specs.Prelude.{◌≡◌, ◌∷◌, ◌++◌}
+use Rattle.base_lists.specs.Kit.{List, [], length, drop}
 use Rattle.graph.specs.Circuit.{Circuit}
 use Rattle.graph.specs.Neighbours.{offsets_of, grouped_values}
 use Rattle.file_format.specs.declared.Refusal.{Refusal}

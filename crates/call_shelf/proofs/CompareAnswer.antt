@@ -1,5 +1,6 @@
 -- The comparison's answer, by the verdicts of the two files. Assumes nothing.
-use Rattle.base_lists.specs.Kit.{◌≡◌, ◌∙◌, sym, ap, List, ℕ}
+use Rattle.std.specs.Prelude.{◌≡◌}
+use Rattle.base_lists.specs.Kit.{◌∙◌, sym, ap, List, ℕ}
 use Rattle.file_format.specs.declared.FileVerdict.{FileVerdict}
 use Rattle.file_format.specs.declared.FileVerdict.TheVariants as verdict
 use Rattle.file_format.specs.declared.Refusal.{Refusal}

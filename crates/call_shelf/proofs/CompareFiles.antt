@@ -1,6 +1,7 @@
 -- The order on circuits and their second-edition files: a file's numbers are its circuit's, and circuits rank equal exactly when their files are the same
 -- bytes. Assumes nothing.
-use Rattle.base_lists.specs.Kit.{◌≡◌, ◌∙◌, sym, ap, refl, ap₂, ◌↔◌, List, [], ◌∷◌, ◌++◌, ℕ, ◌+◌, ◌/◌, ◌%◌, le_of_eq, T, ltb, length, take_all, arith}
+use Rattle.std.specs.Prelude.{◌≡◌, ◌↔◌, ◌∷◌, ◌++◌, ◌+◌, ◌/◌, ◌%◌}
+use Rattle.base_lists.specs.Kit.{◌∙◌, sym, ap, refl, ap₂, List, [], ℕ, le_of_eq, T, ltb, length, take_all, arith}
 use Rattle.base_lists.specs.List.{all}
 use Rattle.file_format.specs.declared.Edition.TheVariants.{Second}
 use Rattle.file_format.specs.declared.Role.{Role}

@@ -1,5 +1,6 @@
 -- Where each of the byte strings lies that lie one after another. Assumes nothing.
-use Rattle.base_lists.specs.Kit.{◌≡◌, ◌∙◌, sym, ap, refl, Bool, false, true, List, [], ◌∷◌, ℕ, ◌≤◌, ◌<◌, ◌+◌, ◌-◌, suc, zero, add-one, leb, length, get_or, take, drop, length-drop, get_or-eq_default, drop_of_length-le, take_all, take-suc, drop-drop, arith, leb-true, leb-false}
+use Rattle.std.specs.Prelude.{◌≡◌, ◌∷◌, ◌≤◌, ◌<◌, ◌+◌, ◌-◌}
+use Rattle.base_lists.specs.Kit.{◌∙◌, sym, ap, refl, Bool, false, true, List, [], ℕ, suc, zero, add-one, leb, length, get_or, take, drop, length-drop, get_or-eq_default, drop_of_length-le, take_all, take-suc, drop-drop, arith, leb-true, leb-false}
 use Rattle.base_lists.specs.List.{sum}
 use Rattle.base_lists.proofs.Rows.{sum-last}
 use Rattle.call_shelf.specs.Strings.{cut_into, capped}

@@ -1,5 +1,6 @@
 -- Laws of the shelf's text. Assumes nothing.
-use Rattle.base_lists.specs.Kit.{◌≡◌, ◌∙◌, sym, ap, refl, List, [], ◌∷◌, ◌++◌, append-nil, append_assoc, ℕ, ◌<◌, ◌+◌, ◌*◌, add-one, length, get_or, take, length-append, length-take, take-suc, arith}
+use Rattle.std.specs.Prelude.{◌≡◌, ◌∷◌, ◌++◌, ◌<◌, ◌+◌, ◌*◌}
+use Rattle.base_lists.specs.Kit.{◌∙◌, sym, ap, refl, List, [], append-nil, append_assoc, ℕ, add-one, length, get_or, take, length-append, length-take, take-suc, arith}
 use Rattle.base_text.specs.Text.{Fits}
 use Rattle.base_text.proofs.Text.{fits-less}
 use Rattle.call_shelf.specs.Text.{line_of, shelf_text}

@@ -1,5 +1,6 @@
 -- Byte strings that lie one after another.
-use Rattle.base_lists.specs.Kit.{cond, List, [], ◌∷◌, ℕ, leb, take, drop}
+use Rattle.std.specs.Prelude.{◌∷◌}
+use Rattle.base_lists.specs.Kit.{cond, List, [], ℕ, leb, take, drop}
 
 -- bytes cut into strings of these lengths, one after another; where the bytes end, the last ones are shorter, or empty
 unfoldable pub cut_into : List ℕ → List ℕ → List (List ℕ)

@@ -1,5 +1,6 @@
 -- The call that makes a test board, whole: its reply and the later content of the bytes lent, from the inputs alone.
-use Rattle.base_lists.specs.Kit.{◌≡◌, List, [], ◌∷◌, ℕ, length}
+use Rattle.std.specs.Prelude.{◌≡◌, ◌∷◌}
+use Rattle.base_lists.specs.Kit.{List, [], ℕ, length}
 use Rattle.file_format.specs.declared.Edition.TheVariants.{First}
 use Rattle.file_format.specs.Layout.{length_of}
 use Rattle.file_format.specs.Reading.{filled}

@@ -1,5 +1,6 @@
 -- Ask 14: what the call says, and how it stands to the place call. Assumes nothing.
-use Rattle.base_lists.specs.Kit.{◌≡◌, ◌∙◌, sym, ap, refl, ◌↔◌, ⊎_elim, iff_trans, List, ℕ, ◌≤◌, length, drop}
+use Rattle.std.specs.Prelude.{◌≡◌, ◌↔◌, ◌≤◌}
+use Rattle.base_lists.specs.Kit.{◌∙◌, sym, ap, refl, ⊎_elim, iff_trans, List, ℕ, length, drop}
 use Rattle.graph.specs.Chosen.{ChosenLink}
 use Rattle.graph.specs.Circuit.{Circuit}
 use Rattle.graph.proofs.Walks.{radius-unique}

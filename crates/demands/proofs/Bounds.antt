@@ -1,5 +1,6 @@
 -- Ask 12: what the call with bounds says. Assumes nothing.
-use Rattle.base_lists.specs.Kit.{◌≡◌, ◌∙◌, sym, List, ℕ, arith, subst}
+use Rattle.std.specs.Prelude.{◌≡◌}
+use Rattle.base_lists.specs.Kit.{◌∙◌, sym, List, ℕ, arith, subst}
 use Rattle.base_lists.proofs.Tests.{true-T}
 use Rattle.base_lists.proofs.Tables.{replicate-tabulate}
 use Rattle.graph.specs.Circuit.{Circuit}

@@ -1,6 +1,7 @@
 -- The four counts are those of the row of sets in a graph H, of which a circuit with some nodes taken is a
 -- presentation. Assumes nothing.
-use Rattle.base_lists.specs.Kit.{◌≡◌, ◌∙◌, sym, ap, subst, ◌↔◌, iff_rfl, iff_trans, List, map, ℕ, ◌≤◌, suc, zero, le_of_eq, length, arith}
+use Rattle.std.specs.Prelude.{◌≡◌, ◌↔◌, ◌≤◌}
+use Rattle.base_lists.specs.Kit.{◌∙◌, sym, ap, subst, iff_rfl, iff_trans, List, map, ℕ, suc, zero, le_of_eq, length, arith}
 use lib.Count.{ones}
 use Rattle.base_lists.specs.List.{sum}
 use Rattle.graph.specs.Circuit.{Circuit, circuit_graph}

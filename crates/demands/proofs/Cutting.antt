@@ -1,5 +1,6 @@
 -- Ask 13: what a list of cuts comes to, without the machine. Assumes nothing.
-use Rattle.base_lists.specs.Kit.{◌≡◌, ◌∙◌, sym, ap, refl, subst, ap₂, ◌↔◌, iff_rfl, iff_trans, Bool, false, true, cond, ◌&&◌, not, ◌||◌, and-true, List, [], ◌∷◌, ℕ, ◌≤◌, ◌<◌, T, eqb, ltb, length, take, drop, take_at, drop_at, lt-ltb, not-true}
+use Rattle.std.specs.Prelude.{◌≡◌, ◌↔◌, ◌&&◌, ◌||◌, ◌∷◌, ◌≤◌, ◌<◌}
+use Rattle.base_lists.specs.Kit.{◌∙◌, sym, ap, refl, subst, ap₂, iff_rfl, iff_trans, Bool, false, true, cond, not, and-true, List, [], ℕ, T, eqb, ltb, length, take, drop, take_at, drop_at, lt-ltb, not-true}
 use Rattle.base_lists.specs.List.{any}
 use Rattle.base_lists.proofs.Tests.{both_true, both_right, T_true, true-T}
 use Rattle.graph.specs.Chosen.{chosen, ChosenLink}

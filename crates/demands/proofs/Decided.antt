@@ -1,5 +1,6 @@
 -- Each call is decided by its conditions, and a refusal leaves every lent table as it was. Assumes nothing.
-use Rattle.base_lists.specs.Kit.{◌≡◌, ◌∙◌, sym, ap, refl, ⊎_elim, Bool, false, true, cond, ◌&&◌, not, List, [], ◌∷◌, ◌++◌, ℕ, le_of_eq, ltb, length, arith}
+use Rattle.std.specs.Prelude.{◌≡◌, ◌&&◌, ◌∷◌, ◌++◌}
+use Rattle.base_lists.specs.Kit.{◌∙◌, sym, ap, refl, ⊎_elim, Bool, false, true, cond, not, List, [], ℕ, le_of_eq, ltb, length, arith}
 use Rattle.base_lists.specs.List.{all}
 use Rattle.base_lists.proofs.Tests.{both_true, both_left, both_right}
 use Rattle.base_lists.proofs.Entries.{all-below, below_all}

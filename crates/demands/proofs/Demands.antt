@@ -1,5 +1,6 @@
 -- The three demands hold. Assumes nothing.
-use Rattle.base_lists.specs.Kit.{◌≡◌, ◌∙◌, sym, ap, refl, subst, ◌↔◌, ⊎_elim, List, [], ◌∷◌, ℕ, ◌≤◌, ◌<◌, length, take, take_at, arith}
+use Rattle.std.specs.Prelude.{◌≡◌, ◌↔◌, ◌∷◌, ◌≤◌, ◌<◌}
+use Rattle.base_lists.specs.Kit.{◌∙◌, sym, ap, refl, subst, ⊎_elim, List, [], ℕ, length, take, take_at, arith}
 use Rattle.base_lists.specs.List.{all, Below}
 use Rattle.base_lists.proofs.Tables.{replicate-tabulate}
 use Rattle.base_lists.proofs.Entries.{below_all}

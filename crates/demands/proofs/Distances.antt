@@ -1,6 +1,7 @@
 -- Document 02, Ask 2, holds: each entry is a distance or 65,535, in the ball lookup and in both place calls. Assumes
 -- nothing.
-use Rattle.base_lists.specs.Kit.{◌≡◌, ◌∙◌, sym, ap, refl, subst, List, ℕ, length, get_or, drop, drop_at}
+use Rattle.std.specs.Prelude.{◌≡◌}
+use Rattle.base_lists.specs.Kit.{◌∙◌, sym, ap, refl, subst, List, ℕ, length, get_or, drop, drop_at}
 use Rattle.graph.specs.Circuit.{circuit_graph, graph_of}
 use Rattle.graph.specs.Graph.{Graph, Distance, DistanceEntry}
 use Rattle.graph.proofs.Distance.{length-distances}

@@ -1,5 +1,6 @@
 -- For files of the first edition all is as it was before there were packages: `first-edition`. Assumes nothing.
-use Rattle.base_lists.specs.Kit.{◌≡◌, ◌∙◌, ap, refl, false, not, and-true, List, [], ◌∷◌, ◌++◌, ℕ, ◌+◌, ◌*◌, eqb, length, drop, arith, le-ltb}
+use Rattle.std.specs.Prelude.{◌≡◌, ◌∷◌, ◌++◌, ◌+◌, ◌*◌}
+use Rattle.base_lists.specs.Kit.{◌∙◌, ap, refl, false, not, and-true, List, [], ℕ, eqb, length, drop, arith, le-ltb}
 use Rattle.graph.specs.Circuit.{Circuit}
 use Rattle.file_format.specs.declared.Edition.TheVariants.{First}
 use Rattle.file_format.specs.declared.Role.{Role}

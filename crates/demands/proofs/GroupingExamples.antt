@@ -1,5 +1,6 @@
 -- The two groupings of specs/Groupings: one that meets the supposition, and one that does not. Assumes nothing.
-use Rattle.base_lists.specs.Kit.{◌≡◌, ◌∙◌, sym, ap, refl, subst, iff_rfl, [], ◌∷◌, ℕ, ◌<◌, eqb, ltb, eqb→eq, ltb→lt, lit≤, length, get_or}
+use Rattle.std.specs.Prelude.{◌≡◌, ◌∷◌, ◌<◌}
+use Rattle.base_lists.specs.Kit.{◌∙◌, sym, ap, refl, subst, iff_rfl, [], ℕ, eqb, ltb, eqb→eq, ltb→lt, lit≤, length, get_or}
 use Rattle.base_lists.specs.Below.{collect, least_below}
 use Rattle.base_lists.specs.List.{all_below, any_below, tabulate}
 use Rattle.base_lists.proofs.Tests.{all_below-at}

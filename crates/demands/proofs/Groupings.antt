@@ -1,5 +1,6 @@
 -- Ask 11 holds: nothing more could be joined. Assumes nothing.
-use Rattle.base_lists.specs.Kit.{◌≡◌, ◌∙◌, sym, ap, subst, ◌↔◌, iff_rfl, iff_trans, iff_symm, List, ℕ, ◌≤◌, ◌<◌, le_of_eq, length, get_or, replicate, length-replicate}
+use Rattle.std.specs.Prelude.{◌≡◌, ◌↔◌, ◌≤◌, ◌<◌}
+use Rattle.base_lists.specs.Kit.{◌∙◌, sym, ap, subst, iff_rfl, iff_trans, iff_symm, List, ℕ, le_of_eq, length, get_or, replicate, length-replicate}
 use Rattle.graph.specs.Circuit.{Circuit, graph_of, circuit_graph}
 use Rattle.simulation.specs.Closed.{Relation}
 use Rattle.simulation.specs.Grouping.{AsEachMember}

@@ -1,5 +1,6 @@
 -- Ask 5 holds: the limit on a pattern's radius. Assumes nothing.
-use Rattle.base_lists.specs.Kit.{◌≡◌, ◌∙◌, sym, ap, refl, subst₂, ◌↔◌, Bool, false, true, cond, List, [], ◌∷◌, ◌++◌, ℕ, ◌≤◌, ◌<◌, ltb, length, arith}
+use Rattle.std.specs.Prelude.{◌≡◌, ◌↔◌, ◌∷◌, ◌++◌, ◌≤◌, ◌<◌}
+use Rattle.base_lists.specs.Kit.{◌∙◌, sym, ap, refl, subst₂, Bool, false, true, cond, List, [], ℕ, ltb, length, arith}
 use Rattle.base_lists.proofs.Tests.{not-true-false}
 use Rattle.base_text.specs.Text.{bytes, digits, decimal}
 use Rattle.graph.specs.Circuit.{graph_of}

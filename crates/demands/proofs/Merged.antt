@@ -1,6 +1,7 @@
 -- Demand 3 on merging: what the merging call writes, handed to the place call with a radius given, is refused with 9
 -- exactly when the first pattern is at that radius, and else marks the same nodes and links. Assumes nothing.
-use Rattle.base_lists.specs.Kit.{◌≡◌, ◌∙◌, sym, ap, ⊎_elim, Bool, cond, List, [], ◌∷◌, ℕ, ◌<◌, length, arith}
+use Rattle.std.specs.Prelude.{◌≡◌, ◌∷◌, ◌<◌}
+use Rattle.base_lists.specs.Kit.{◌∙◌, sym, ap, ⊎_elim, Bool, cond, List, [], ℕ, length, arith}
 use Rattle.graph.specs.Circuit.{circuit_graph, graph_of}
 use Rattle.graph.proofs.Distance.{distance-below}
 use Rattle.file_format.specs.declared.Role.TheVariants.{Pattern}

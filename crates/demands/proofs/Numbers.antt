@@ -1,5 +1,6 @@
 -- Every condition of every call is one of the fifteen. Assumes nothing.
-use Rattle.base_lists.specs.Kit.{List, [], ◌∷◌, ◌++◌, ℕ, length}
+use Rattle.std.specs.Prelude.{◌∷◌, ◌++◌}
+use Rattle.base_lists.specs.Kit.{List, [], ℕ, length}
 use Rattle.file_format.specs.declared.Edition.{Edition}
 use Rattle.file_format.specs.declared.Role.{Role}
 use Rattle.file_format.specs.declared.Role.TheVariants.{Pattern, Board, AnyPattern}

@@ -1,5 +1,6 @@
 -- Ask 6: what equal is, and the converter. Assumes nothing.
-use Rattle.base_lists.specs.Kit.{◌≡◌, ◌∙◌, ap, refl, Bool, false, true, List, ℕ, ◌≤◌, ◌<◌, ltb, length, get_or, take, get_or-eq_default, take_at, arith, ltb-false, ltb-true}
+use Rattle.std.specs.Prelude.{◌≡◌, ◌≤◌, ◌<◌}
+use Rattle.base_lists.specs.Kit.{◌∙◌, ap, refl, Bool, false, true, List, ℕ, ltb, length, get_or, take, get_or-eq_default, take_at, arith, ltb-false, ltb-true}
 use Rattle.base_lists.specs.List.{Below}
 use Rattle.base_lists.proofs.Tables.{get_d_tabulate}
 use Rattle.base_lists.proofs.Entries.{below-get_or, below_all}

@@ -1,5 +1,6 @@
 -- Ask 9: what the check says, and how it stands to the place call. Assumes nothing.
-use Rattle.base_lists.specs.Kit.{◌≡◌, ◌∙◌, sym, List, ℕ, length, take}
+use Rattle.std.specs.Prelude.{◌≡◌}
+use Rattle.base_lists.specs.Kit.{◌∙◌, sym, List, ℕ, length, take}
 use Rattle.graph.specs.Graph.{Contains}
 use Rattle.graph.proofs.Walks.{radius-unique}
 use Rattle.file_format.specs.Circuit.{circuit_of}

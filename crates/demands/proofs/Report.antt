@@ -1,7 +1,8 @@
 -- What a line of the report means, by the place call at the pattern's radius: where the call accepts, the centre has a
 -- line, with the nodes and the links that the call marks; where it gives 9, it has none. call_place/proofs/Promise says
 -- what the call's answers mean. Assumes nothing.
-use Rattle.base_lists.specs.Kit.{◌≡◌, ◌∙◌, sym, ◌↔◌, List, [], ◌++◌, ℕ, le_trans, T, take}
+use Rattle.std.specs.Prelude.{◌≡◌, ◌↔◌, ◌++◌}
+use Rattle.base_lists.specs.Kit.{◌∙◌, sym, List, [], ℕ, le_trans, T, take}
 use Rattle.base_lists.specs.Below.{count_below, concat_below}
 use Rattle.base_lists.proofs.Tests.{T_true, T_false}
 use Rattle.file_format.specs.declared.Refusal.{Refusal}

@@ -1,5 +1,6 @@
 -- Ask 10: the order on circuits, the comparison of two files and the shelf. Assumes nothing.
-use Rattle.base_lists.specs.Kit.{◌≡◌, ◌∙◌, sym, ap, refl, ◌↔◌, List, [], ◌∷◌, ℕ, length, take, drop, take_at, drop_at, arith}
+use Rattle.std.specs.Prelude.{◌≡◌, ◌↔◌, ◌∷◌}
+use Rattle.base_lists.specs.Kit.{◌∙◌, sym, ap, refl, List, [], ℕ, length, take, drop, take_at, drop_at, arith}
 use Rattle.base_lists.proofs.Entries.{below_all}
 use Rattle.file_format.specs.declared.Refusal.{Refusal}
 use Rattle.file_format.specs.declared.Role.TheVariants.{Pattern}

@@ -1,5 +1,6 @@
 -- Ask 3: what the call for a test board makes. Assumes nothing.
-use Rattle.base_lists.specs.Kit.{◌≡◌, ◌∙◌, sym, ap, List, [], ◌∷◌, ℕ, length, get_or, take}
+use Rattle.std.specs.Prelude.{◌≡◌, ◌∷◌}
+use Rattle.base_lists.specs.Kit.{◌∙◌, sym, ap, List, [], ℕ, length, get_or, take}
 use Rattle.graph.specs.Circuit.{Circuit}
 use Rattle.file_format.specs.declared.Role.TheVariants.{Board}
 use Rattle.file_format.specs.Layout.{first_edition}

@@ -1,6 +1,7 @@
 -- Ask 14, "The least that still says none", quoted over what is proved of it: `Ask14`. proofs/Barring proves it. The
 -- contract of the call equates its reply and what it leaves with `bar_call` of the inputs alone.
-use Rattle.base_lists.specs.Kit.{◌≡◌, ◌↔◌, List, [], ◌∷◌, ℕ, ◌≤◌, T, length, take, drop}
+use Rattle.std.specs.Prelude.{◌≡◌, ◌↔◌, ◌∷◌, ◌≤◌}
+use Rattle.base_lists.specs.Kit.{List, [], ℕ, T, length, take, drop}
 use Rattle.graph.specs.Chosen.{ChosenLink}
 use Rattle.graph.specs.Graph.{Radius}
 use Rattle.simulation.specs.Closed.{Relation, ◌⊆◌}

@@ -1,7 +1,8 @@
 -- Ask 12, "A link through a few parts", quoted over what is proved of it: `Ask12`. proofs/Bounds proves it. The
 -- contract of the call equates its reply and what it leaves with `bounded_matching` of the inputs alone. A pattern of
 -- the third edition is its bytes; the board is of either edition.
-use Rattle.base_lists.specs.Kit.{◌≡◌, ◌↔◌, List, ℕ, ◌≤◌, length, take}
+use Rattle.std.specs.Prelude.{◌≡◌, ◌↔◌, ◌≤◌}
+use Rattle.base_lists.specs.Kit.{List, ℕ, length, take}
 use Rattle.simulation.specs.Closed.{◌⊆◌}
 use Rattle.file_format.specs.declared.Role.TheVariants.{Board, AnyPattern}
 use Rattle.file_format.specs.Circuit.{circuit_of}

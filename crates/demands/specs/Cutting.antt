@@ -1,7 +1,8 @@
 -- Ask 13, "Cutting tracks while searching", quoted over what is proved of it: `Ask13`. proofs/Cutting proves it. What
 -- the calls promise of the lent tables is OpenPromise, CutPromise and ReadPromise; here a list of cuts is spoken of
 -- without the machine: by the places that it names.
-use Rattle.base_lists.specs.Kit.{◌≡◌, false, cond, ◌&&◌, not, List, [], ◌∷◌, ◌++◌, ℕ, ◌≤◌, ltb, length, take, drop}
+use Rattle.std.specs.Prelude.{◌≡◌, ◌&&◌, ◌∷◌, ◌++◌, ◌≤◌}
+use Rattle.base_lists.specs.Kit.{false, cond, not, List, [], ℕ, ltb, length, take, drop}
 use Rattle.graph.specs.Circuit.{LinkAt}
 use Rattle.graph.specs.Graph.{Graph}
 use Rattle.simulation.specs.Simulation.{Largest}

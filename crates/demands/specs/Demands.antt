@@ -5,7 +5,8 @@
 -- a definition applied to the inputs alone (`reading`, `writing`, `radius_call`, `ball_call`, `matching`, `place_at`,
 -- `merging`, `reporting`). That a call ends, and with a fixed reply, is that contract, proved of the code. The demands
 -- here are about the replies and tables themselves.
-use Rattle.base_lists.specs.Kit.{◌≡◌, ◌↔◌, ◌&&◌, not, List, [], ◌∷◌, ◌++◌, map, ℕ, ◌≤◌, ◌<◌, ◌-◌, suc, T, ltb, length, get_or, take, drop, replicate}
+use Rattle.std.specs.Prelude.{◌≡◌, ◌↔◌, ◌&&◌, ◌∷◌, ◌++◌, ◌≤◌, ◌<◌, ◌-◌}
+use Rattle.base_lists.specs.Kit.{not, List, [], map, ℕ, suc, T, ltb, length, get_or, take, drop, replicate}
 use Rattle.std.specs.Int.Count.{ones}
 use Rattle.base_lists.specs.List.{Below, sum}
 use Rattle.graph.specs.Circuit.{graph_of, circuit_graph}

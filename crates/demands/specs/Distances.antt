@@ -1,7 +1,8 @@
 -- Document 02, Ask 2, "How far from the probe": what the entries mean, of the ball lookup and of both place calls.
 -- proofs/Distances proves it. That the lengths count under 8, and that a refusal touches no table, is demand 1 (Demands
 -- `placed_conditions`, `Untouched`).
-use Rattle.base_lists.specs.Kit.{◌≡◌, List, ℕ, ◌≤◌, ◌<◌, length, get_or, drop}
+use Rattle.std.specs.Prelude.{◌≡◌, ◌≤◌, ◌<◌}
+use Rattle.base_lists.specs.Kit.{List, ℕ, length, get_or, drop}
 use Rattle.graph.specs.Graph.{Distance, DistanceEntry, Radius}
 use Rattle.file_format.specs.declared.Role.TheVariants.{Board}
 use Rattle.file_format.specs.Layout.{CircuitFile, nodes_of}

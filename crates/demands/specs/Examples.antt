@@ -1,6 +1,7 @@
 -- Document 01's examples E1 to E9, and those of the requests that came after, as statements about the definitions, in a
 -- single list. proofs/Examples proves the list.
-use Rattle.base_lists.specs.Kit.{◌≡◌, List, [], ◌∷◌, ℕ, ◌<◌, T}
+use Rattle.std.specs.Prelude.{◌≡◌, ◌∷◌, ◌<◌}
+use Rattle.base_lists.specs.Kit.{List, [], ℕ, T}
 use Rattle.graph.specs.Circuit.{Circuit}
 use Rattle.file_format.specs.declared.File.TheVariants.{Neither}
 use Rattle.file_format.specs.Refusals.{refuse}

@@ -1,7 +1,8 @@
 -- Document 01's examples of files, T and B as bytes, and the table of refusals; T in the editions that document 02
 -- adds, an example of each number that it adds, and of the numbers that a host program tells. As statements about the
 -- definitions, in a single list: proofs/Files proves the list.
-use Rattle.base_lists.specs.Kit.{◌≡◌, false, true, List, [], ◌∷◌, ◌++◌, ℕ}
+use Rattle.std.specs.Prelude.{◌≡◌, ◌∷◌, ◌++◌}
+use Rattle.base_lists.specs.Kit.{false, true, List, [], ℕ}
 use Rattle.file_format.specs.declared.Edition.TheVariants.{First, Second}
 use Rattle.file_format.specs.declared.File.{File}
 use Rattle.file_format.specs.declared.File.TheVariants as file

@@ -2,7 +2,8 @@
 -- `FirstEdition`. proofs/FirstEdition proves it. Every call is made of what stands here, what a file is asked for, the
 -- circuit that it holds and the bytes that are written, and of which part and node are equal (specs/Packages). "a
 -- first-edition file counts as having all packages 0"
-use Rattle.base_lists.specs.Kit.{◌≡◌, not, List, [], ◌∷◌, ◌++◌, ℕ, ◌+◌, ◌*◌, eqb, ltb, length, drop}
+use Rattle.std.specs.Prelude.{◌≡◌, ◌∷◌, ◌++◌, ◌+◌, ◌*◌}
+use Rattle.base_lists.specs.Kit.{not, List, [], ℕ, eqb, ltb, length, drop}
 use Rattle.graph.specs.Circuit.{Circuit}
 use Rattle.file_format.specs.declared.Edition.TheVariants.{First}
 use Rattle.file_format.specs.declared.Role.{Role}

@@ -2,7 +2,8 @@
 -- could be joined." proofs/Groupings proves `NothingMore`, proofs/GroupingExamples the two examples at the end. Of
 -- `grouped` only what `makes` says of it has to be known: one definition, of which the merged pattern is the instance
 -- for the classes (merge/specs/Merged).
-use Rattle.base_lists.specs.Kit.{◌≡◌, List, [], ◌∷◌, ℕ, ◌≤◌, length, get_or}
+use Rattle.std.specs.Prelude.{◌≡◌, ◌∷◌, ◌≤◌}
+use Rattle.base_lists.specs.Kit.{List, [], ℕ, length, get_or}
 use Rattle.simulation.specs.Grouping.{Grouping, AsEachMember}
 use Rattle.file_format.specs.declared.Role.TheVariants.{Pattern, Board}
 use Rattle.file_format.specs.Circuit.{circuit_of}

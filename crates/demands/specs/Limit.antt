@@ -2,7 +2,8 @@
 -- limit. Users keep every guarantee about places and merging for patterns up to it; a merged pattern never has the
 -- larger radius. Turned away: 11, pattern radius above 12, checked in every call that checks 6, after it and before the
 -- board's 1."
-use Rattle.base_lists.specs.Kit.{◌≡◌, ◌↔◌, List, [], ◌∷◌, ℕ, ◌≤◌, ◌<◌, length}
+use Rattle.std.specs.Prelude.{◌≡◌, ◌↔◌, ◌∷◌, ◌≤◌, ◌<◌}
+use Rattle.base_lists.specs.Kit.{List, [], ℕ, length}
 use Rattle.base_text.specs.Text.{bytes}
 use Rattle.graph.specs.Circuit.{graph_of}
 use Rattle.graph.specs.Graph.{Radius}

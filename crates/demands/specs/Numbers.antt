@@ -3,7 +3,8 @@
 -- that some call is asked for: its number, the file that it means (that of the role in which a file is read or written,
 -- or neither) and when it holds. What the tests of 4, 5, 6 and 11 mean, and whether there is a place (9 and 15), the
 -- demands say (specs/Demands). In which order a call tries them is its list.
-use Rattle.base_lists.specs.Kit.{Bool, ◌&&◌, not, List, [], ◌∷◌, ℕ, eqb, ltb, length}
+use Rattle.std.specs.Prelude.{◌&&◌, ◌∷◌}
+use Rattle.base_lists.specs.Kit.{Bool, not, List, [], ℕ, eqb, ltb, length}
 use Rattle.graph.specs.Search.{connected}
 use Rattle.file_format.specs.declared.Edition.{Edition}
 use Rattle.file_format.specs.declared.File.TheVariants.{Neither}

@@ -1,6 +1,7 @@
 -- Ask 8, each of its sentences quoted over what is proved of it: `Ask8`. proofs/OneWay proves it. What the whole-board
 -- call comes to is specs/Demands `Matched`; here links are followed in the directions chosen.
-use Rattle.base_lists.specs.Kit.{◌≡◌, List, ℕ, ◌≤◌, length}
+use Rattle.std.specs.Prelude.{◌≡◌, ◌≤◌}
+use Rattle.base_lists.specs.Kit.{List, ℕ, length}
 use Rattle.graph.specs.Graph.{Graph}
 use Rattle.simulation.specs.Closed.{Relation, ◌⊆◌, Row}
 use Rattle.simulation.specs.Simulation.{Candidate, Direction, Along, Largest, LargestGraphSimulation}

@@ -3,7 +3,8 @@
 -- files of either edition, in every mixture. "The merged part takes its class's package, and the merged file has the
 -- pattern's edition.": specs/Demands `Made`, `merged_file`. The numbers 3 and 12: `writes`, `converts` there. That
 -- nothing moved for the first edition: specs/FirstEdition. The layout as bytes: specs/Files.
-use Rattle.base_lists.specs.Kit.{◌≡◌, ◌↔◌, List, [], ℕ, ◌≤◌, ◌+◌, ◌*◌, length, get_or, take}
+use Rattle.std.specs.Prelude.{◌≡◌, ◌↔◌, ◌≤◌, ◌+◌, ◌*◌}
+use Rattle.base_lists.specs.Kit.{List, [], ℕ, length, get_or, take}
 use Rattle.base_lists.specs.List.{Below}
 use Rattle.file_format.specs.declared.Edition.{Edition}
 use Rattle.file_format.specs.declared.Edition.TheVariants.{Second}

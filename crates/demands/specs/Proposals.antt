@@ -1,6 +1,7 @@
 -- Ask 9, "Check a place from elsewhere", quoted over what is proved of it: `Ask9`. proofs/Proposals proves it. The
 -- contract of the call equates its reply with `check_call` of the inputs alone.
-use Rattle.base_lists.specs.Kit.{◌≡◌, ◌↔◌, ◌⊎◌, List, [], ◌∷◌, ℕ, ◌<◌, length, take}
+use Rattle.std.specs.Prelude.{◌≡◌, ◌↔◌, ◌⊎◌, ◌∷◌, ◌<◌}
+use Rattle.base_lists.specs.Kit.{List, [], ℕ, length, take}
 use Rattle.graph.specs.Graph.{Contains, Radius}
 use Rattle.file_format.specs.declared.Role.TheVariants.{Pattern, Board}
 use Rattle.file_format.specs.Circuit.{circuit_of}

@@ -1,7 +1,8 @@
 -- The report, quoted over what is proved of its text: `Reported`. proofs/Report proves it. The contract of the call
 -- equates its reply and what it leaves with `reporting` of the inputs alone; it is refused by 8 alone (specs/Demands
 -- `reports`). The program that reads the files: crate finder.
-use Rattle.base_lists.specs.Kit.{◌≡◌, ◌↔◌, List, [], ◌++◌, ℕ, ◌≤◌, T, length, take}
+use Rattle.std.specs.Prelude.{◌≡◌, ◌↔◌, ◌++◌, ◌≤◌}
+use Rattle.base_lists.specs.Kit.{List, [], ℕ, T, length, take}
 use Rattle.base_lists.specs.Below.{count_below, concat_below}
 use Rattle.file_format.specs.declared.Refusal.{Refusal}
 use Rattle.file_format.specs.Circuit.{circuit_of}

@@ -1,7 +1,8 @@
 -- Ask 10, "A shelf in order", quoted over what is proved of it: `Ask10`. proofs/Shelf proves it. The contracts of the
 -- two calls equate their replies, and what they leave, with `comparing` and `shelving` of the inputs alone. (The
 -- program that reads the files: crate shelf.)
-use Rattle.base_lists.specs.Kit.{◌≡◌, ◌↔◌, ◌⊎◌, List, [], ◌∷◌, ℕ, T, length, take, drop}
+use Rattle.std.specs.Prelude.{◌≡◌, ◌↔◌, ◌⊎◌, ◌∷◌}
+use Rattle.base_lists.specs.Kit.{List, [], ℕ, T, length, take, drop}
 use Rattle.base_lists.specs.List.{Below}
 use Rattle.file_format.specs.declared.Edition.TheVariants.{Second}
 use Rattle.file_format.specs.declared.Refusal.{Refusal}

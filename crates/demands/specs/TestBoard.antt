@@ -1,7 +1,8 @@
 -- Ask 3, "A test load anyone can make again", quoted over what is proved of it: `Ask3`. proofs/TestBoard proves it.
 -- "Turned away: 10, one of the four numbers out of its range, checked ahead of 8", and "An output under 4 + 2N + 4M
 -- bytes, M as given, is 8.": specs/Demands `loads`.
-use Rattle.base_lists.specs.Kit.{◌≡◌, ◌↔◌, List, [], ◌∷◌, ℕ, T, length, get_or, take, drop}
+use Rattle.std.specs.Prelude.{◌≡◌, ◌↔◌, ◌∷◌}
+use Rattle.base_lists.specs.Kit.{List, [], ℕ, T, length, get_or, take, drop}
 use Rattle.graph.specs.Circuit.{HasLink}
 use Rattle.file_format.specs.declared.Role.TheVariants.{Board}
 use Rattle.file_format.specs.Layout.{CircuitFile, first_edition, nodes_of, kinds_of, starts_of, ends_of}

@@ -1,5 +1,6 @@
 -- The test whether every bound is from 1 to 4. Assumes nothing.
-use Rattle.base_lists.specs.Kit.{◌≡◌, false, true, ◌&&◌, List, ℕ, ◌≤◌, ◌<◌, T, leb, le→leb, leb→le, length, get_or}
+use Rattle.std.specs.Prelude.{◌≡◌, ◌&&◌, ◌≤◌, ◌<◌}
+use Rattle.base_lists.specs.Kit.{false, true, List, ℕ, T, leb, le→leb, leb→le, length, get_or}
 use Rattle.base_lists.specs.List.{all}
 use Rattle.base_lists.proofs.Tests.{both_true, both_left, both_right, all-at, at_all, T_true, T_false}
 use Rattle.file_bounds.specs.Third.{bounds_fit}

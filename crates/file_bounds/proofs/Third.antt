@@ -1,6 +1,7 @@
 -- The conditions on a file of the third edition, one after another; and what they say of the file of the second edition before the bounds.
 -- Assumes nothing.
-use Rattle.base_lists.specs.Kit.{◌≡◌, ◌∙◌, sym, ap, refl, subst, ap₂, Bool, false, true, cond, not, List, [], ◌∷◌, ◌++◌, ℕ, ◌≤◌, ◌+◌, ◌*◌, T, eqb, ltb, length, take, drop, length-take-le, get_or-take, arith, eq-eqb, ne_eqb, le-ltb, eqb-true, ltb-false, eqb-false}
+use Rattle.std.specs.Prelude.{◌≡◌, ◌∷◌, ◌++◌, ◌≤◌, ◌+◌, ◌*◌}
+use Rattle.base_lists.specs.Kit.{◌∙◌, sym, ap, refl, subst, ap₂, Bool, false, true, cond, not, List, [], ℕ, T, eqb, ltb, length, take, drop, length-take-le, get_or-take, arith, eq-eqb, ne_eqb, le-ltb, eqb-true, ltb-false, eqb-false}
 use Rattle.base_lists.proofs.Tests.{true-T, T_true, not-true-false}
 use Rattle.file_format.specs.declared.Edition.TheVariants.{Second}
 use Rattle.graph.specs.Circuit.{Circuit}

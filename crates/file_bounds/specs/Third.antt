@@ -1,5 +1,6 @@
 -- The third edition of a pattern file: a file of the second edition, and a bound for each link after it.
-use Rattle.base_lists.specs.Kit.{◌≡◌, Bool, false, true, cond, ◌&&◌, not, List, [], ◌∷◌, ◌++◌, ℕ, ◌+◌, ◌*◌, eqb, ltb, leb, length, take, drop}
+use Rattle.std.specs.Prelude.{◌≡◌, ◌&&◌, ◌∷◌, ◌++◌, ◌+◌, ◌*◌}
+use Rattle.base_lists.specs.Kit.{Bool, false, true, cond, not, List, [], ℕ, eqb, ltb, leb, length, take, drop}
 use Rattle.base_lists.specs.List.{all}
 use Rattle.graph.specs.Circuit.{Circuit}
 use Rattle.file_format.specs.declared.Edition.TheVariants.{Second}

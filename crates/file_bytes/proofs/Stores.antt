@@ -1,5 +1,6 @@
 -- Laws of numbers stored as bytes. Assumes nothing.
-use Rattle.base_lists.specs.Kit.{◌≡◌, ◌∙◌, sym, ap, refl, ap₂, List, [], ◌∷◌, ◌++◌, append_assoc, ℕ, ◌≤◌, ◌<◌, ◌+◌, ◌*◌, ◌/◌, ◌%◌, add-zero, add-one, length, get_or, take, drop, set, length-append, take-append-drop, length-take-le, take_at, take_all, drop_at, take-suc, sets-eq, drop-drop, arith}
+use Rattle.std.specs.Prelude.{◌≡◌, ◌∷◌, ◌++◌, ◌≤◌, ◌<◌, ◌+◌, ◌*◌, ◌/◌, ◌%◌}
+use Rattle.base_lists.specs.Kit.{◌∙◌, sym, ap, refl, ap₂, List, [], append_assoc, ℕ, add-zero, add-one, length, get_or, take, drop, set, length-append, take-append-drop, length-take-le, take_at, take_all, drop_at, take-suc, sets-eq, drop-drop, arith}
 use Rattle.file_format.specs.Reading.{filled}
 use Rattle.file_format.specs.Refusals.{accept}
 use Rattle.file_bytes.specs.Bytes.{bytes_of, stretch_bytes, stored}

@@ -1,5 +1,6 @@
 -- The bytes of numbers of 16 bits, and of a file's stretches.
-use Rattle.base_lists.specs.Kit.{List, [], ◌∷◌, ◌++◌, ℕ, ◌+◌, ◌*◌, ◌/◌, ◌%◌, length, take, drop}
+use Rattle.std.specs.Prelude.{◌∷◌, ◌++◌, ◌+◌, ◌*◌, ◌/◌, ◌%◌}
+use Rattle.base_lists.specs.Kit.{List, [], ℕ, length, take, drop}
 
 -- "Every field is 16 bits unsigned, low byte first": two bytes for each number
 unfoldable pub bytes_of : List ℕ → List ℕ

@@ -1,5 +1,6 @@
 -- What the links of a circuit in a role give, once they are in order: one search for a pattern. Assumes nothing.
-use Rattle.base_lists.specs.Kit.{◌≡◌, ◌∙◌, false, true, not-not, List, ℕ, T, eqb, length, arith}
+use Rattle.std.specs.Prelude.{◌≡◌}
+use Rattle.base_lists.specs.Kit.{◌∙◌, false, true, not-not, List, ℕ, T, eqb, length, arith}
 use Rattle.base_lists.proofs.Tests.{true-T}
 use Rattle.graph.specs.Search.{far, radius}
 use Rattle.graph_radius.proofs.Spanning.{connected-radius}

@@ -1,5 +1,6 @@
 -- What refuses a circuit that is to be written, as a number.
-use Rattle.base_lists.specs.Kit.{cond, ◌&&◌, List, ℕ, eqb, length}
+use Rattle.std.specs.Prelude.{◌&&◌}
+use Rattle.base_lists.specs.Kit.{cond, List, ℕ, eqb, length}
 use Rattle.file_format.specs.declared.Edition.{Edition}
 use Rattle.file_format.specs.declared.Role.{Role}
 use Rattle.file_format.specs.Layout.{package_count}

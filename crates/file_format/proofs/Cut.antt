@@ -1,6 +1,7 @@
 -- Of a file a program reads at most a byte more than the longest of its edition that its role accepts: what is read is refused as the whole file
 -- is, and an accepted file is read whole. Assumes nothing.
-use Rattle.base_lists.specs.Kit.{◌≡◌, ◌∙◌, sym, ap, refl, ap₂, Bool, false, true, List, ℕ, ◌≤◌, ◌<◌, ◌+◌, ◌*◌, length, length-take-le, take_all, get_or-take, arith}
+use Rattle.std.specs.Prelude.{◌≡◌, ◌≤◌, ◌<◌, ◌+◌, ◌*◌}
+use Rattle.base_lists.specs.Kit.{◌∙◌, sym, ap, refl, ap₂, Bool, false, true, List, ℕ, length, length-take-le, take_all, get_or-take, arith}
 use native.Mathlib.Decide.{dec_lt}
 use Rattle.base_lists.proofs.Tests.{true-T}
 use Rattle.file_format.specs.declared.Edition.{Edition}

@@ -1,5 +1,6 @@
 -- Laws of the fields of a stretch, for the loops that go through them. Assumes nothing.
-use Rattle.base_lists.specs.Kit.{◌≡◌, ◌∙◌, ap, refl, ap₂, List, ◌++◌, ℕ, ◌≤◌, ◌<◌, ◌+◌, ◌-◌, ◌*◌, add-sub_cancel_left, length, get_or, take, drop, set, take_at, get_or-take, arith}
+use Rattle.std.specs.Prelude.{◌≡◌, ◌++◌, ◌≤◌, ◌<◌, ◌+◌, ◌-◌, ◌*◌}
+use Rattle.base_lists.specs.Kit.{◌∙◌, ap, refl, ap₂, List, ℕ, add-sub_cancel_left, length, get_or, take, drop, set, take_at, get_or-take, arith}
 use Rattle.file_format.specs.declared.Edition.{Edition}
 use Rattle.file_format.specs.declared.Edition.TheVariants.{First, Second}
 use Rattle.file_format.specs.Label.{labels}

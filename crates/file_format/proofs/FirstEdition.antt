@@ -1,6 +1,7 @@
 -- What the editions have to do with each other: a first-edition file "counts as having all packages 0", so that its labels are its kinds.
 -- Assumes nothing.
-use Rattle.base_lists.specs.Kit.{◌≡◌, ◌∙◌, ap, refl, subst, List, [], ℕ, ◌<◌, ◌+◌, ◌*◌, length, get_or, drop, get_or-drop, arith}
+use Rattle.std.specs.Prelude.{◌≡◌, ◌<◌, ◌+◌, ◌*◌}
+use Rattle.base_lists.specs.Kit.{◌∙◌, ap, refl, subst, List, [], ℕ, length, get_or, drop, get_or-drop, arith}
 use Rattle.base_lists.specs.List.{Below, tabulate}
 use Rattle.base_lists.proofs.Tables.{tabulate-same}
 use Rattle.file_format.specs.Label.{label, labels}

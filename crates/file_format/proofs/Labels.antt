@@ -1,5 +1,6 @@
 -- A label is a kind and a package, and only that. Assumes nothing.
-use Rattle.base_lists.specs.Kit.{◌≡◌, ◌∙◌, sym, refl, ap₂, List, [], ℕ, ◌<◌, length, get_or, arith}
+use Rattle.std.specs.Prelude.{◌≡◌, ◌<◌}
+use Rattle.base_lists.specs.Kit.{◌∙◌, sym, refl, ap₂, List, [], ℕ, length, get_or, arith}
 use Rattle.base_lists.proofs.Tables.{length-tabulate, get_d_tabulate, is-tabulate}
 use Rattle.file_format.specs.Label.{label, kind_in, package_in, labels, kinds_in, packages_in}
 

@@ -1,6 +1,7 @@
 -- The limit on a pattern's radius: which patterns are refused with 11, and what a list of conditions came to before the number came in. Assumes
 -- nothing.
-use Rattle.base_lists.specs.Kit.{◌≡◌, ◌∙◌, sym, ap, refl, subst, ◌↔◌, Bool, false, true, cond, List, [], ◌∷◌, ◌++◌, ℕ, ◌≤◌, ◌<◌, eqb, ltb, arith, le-ltb, lt-ltb, eqb-true, ltb-false, eqb-false, ltb-true}
+use Rattle.std.specs.Prelude.{◌≡◌, ◌↔◌, ◌∷◌, ◌++◌, ◌≤◌, ◌<◌}
+use Rattle.base_lists.specs.Kit.{◌∙◌, sym, ap, refl, subst, Bool, false, true, cond, List, [], ℕ, eqb, ltb, arith, le-ltb, lt-ltb, eqb-true, ltb-false, eqb-false, ltb-true}
 use Rattle.base_lists.proofs.Tests.{not-true-false}
 use Rattle.graph.specs.Circuit.{graph_of, circuit_graph}
 use Rattle.graph.specs.Graph.{Graph, Radius}

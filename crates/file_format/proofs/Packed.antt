@@ -1,6 +1,7 @@
 -- One number per link, start times 65,536 plus end: which of two is the smaller, and when they are the same; and the condition 5 by these
 -- numbers is the condition 5 by start, then by end. Assumes nothing.
-use Rattle.base_lists.specs.Kit.{◌≡◌, ap, subst, ◌↔◌, inl, inr, List, ◌∷◌, ◌++◌, ℕ, ◌<◌, ◌+◌, ◌-◌, ◌*◌, ltb, ltb→lt, lt→ltb, length, get_or, get_or-drop, arith}
+use Rattle.std.specs.Prelude.{◌≡◌, ◌↔◌, ◌∷◌, ◌++◌, ◌<◌, ◌+◌, ◌-◌, ◌*◌}
+use Rattle.base_lists.specs.Kit.{ap, subst, inl, inr, List, ℕ, ltb, ltb→lt, lt→ltb, length, get_or, get_or-drop, arith}
 use native.Mathlib.Decide.{dec_lt}
 use Rattle.base_lists.specs.List.{Below}
 use Rattle.base_lists.proofs.Below.{all_below-same}

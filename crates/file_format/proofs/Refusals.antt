@@ -1,5 +1,6 @@
 -- Laws of lists of conditions, and what it says of a file that none of its conditions holds. Assumes nothing.
-use Rattle.base_lists.specs.Kit.{◌≡◌, ◌∙◌, sym, ap, refl, ◌↔◌, ⊎_elim, ◌⊎◌, inl, inr, Bool, false, true, cond, ◌&&◌, not, List, [], ◌∷◌, ◌++◌, MemOf, mem-cases_cons, mem-head, mem-not_nil, mem-tail, ℕ, ◌≤◌, ◌<◌, T, eqb, ltb, leb, leb→le, length, arith, eq-eqb, ne_eqb, le-ltb, lt-ltb, eqb-true, not-false, ltb-false}
+use Rattle.std.specs.Prelude.{◌≡◌, ◌↔◌, ◌⊎◌, ◌&&◌, ◌∷◌, ◌++◌, ◌≤◌, ◌<◌}
+use Rattle.base_lists.specs.Kit.{◌∙◌, sym, ap, refl, ⊎_elim, inl, inr, Bool, false, true, cond, not, List, [], MemOf, mem-cases_cons, mem-head, mem-not_nil, mem-tail, ℕ, T, eqb, ltb, leb, leb→le, length, arith, eq-eqb, ne_eqb, le-ltb, lt-ltb, eqb-true, not-false, ltb-false}
 use Rattle.base_lists.specs.List.{all}
 use Rattle.base_lists.proofs.Tests.{not-true-false, both_false, both_left, both_right, true-T, false-T, T_true, T_false}
 use Rattle.graph.specs.Search.{connected, radius}

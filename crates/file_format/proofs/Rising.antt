@@ -1,5 +1,6 @@
 -- What the test on the links' order means: each link comes before every later one. Assumes nothing.
-use Rattle.base_lists.specs.Kit.{◌≡◌, ◌∙◌, subst, ◌↔◌, ⊎_elim, ◌⊎◌, inl, inr, ◌&&◌, List, ℕ, ◌≤◌, ◌<◌, ◌+◌, ◌-◌, suc, zero, not-suc-le-zero, add-one, T, eqb, ltb, eqb→eq, ltb→lt, lt→ltb, length, get_or, arith, eq-eqb, ltb-false}
+use Rattle.std.specs.Prelude.{◌≡◌, ◌↔◌, ◌⊎◌, ◌&&◌, ◌≤◌, ◌<◌, ◌+◌, ◌-◌}
+use Rattle.base_lists.specs.Kit.{◌∙◌, subst, ⊎_elim, inl, inr, List, ℕ, suc, zero, not-suc-le-zero, add-one, T, eqb, ltb, eqb→eq, ltb→lt, lt→ltb, length, get_or, arith, eq-eqb, ltb-false}
 use Rattle.base_lists.proofs.Tests.{both_true, both_left, both_right, either_left, either-right, either-cases, all_below-at, at-all_below, true-T, T_false, decide}
 use Rattle.graph.specs.Rising.{LinksRise}
 use Rattle.graph.proofs.RisingLinks.{Before}

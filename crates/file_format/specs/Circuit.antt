@@ -1,5 +1,6 @@
 -- The circuit that a file holds, and what an accepted file says of it.
-use Rattle.base_lists.specs.Kit.{◌≡◌, ◌≤◌, T, length}
+use Rattle.std.specs.Prelude.{◌≡◌, ◌≤◌}
+use Rattle.base_lists.specs.Kit.{T, length}
 use Rattle.graph.specs.Circuit.{Circuit}
 use Rattle.graph.specs.Rising.{LinksRise}
 use Rattle.file_format.specs.declared.Role.{Role}

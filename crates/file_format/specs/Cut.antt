@@ -1,5 +1,6 @@
 -- How much of a file a program reads.
-use Rattle.base_lists.specs.Kit.{List, ℕ, ◌+◌, take}
+use Rattle.std.specs.Prelude.{◌+◌}
+use Rattle.base_lists.specs.Kit.{List, ℕ, take}
 use Rattle.file_format.specs.declared.Edition.{Edition}
 use Rattle.file_format.specs.declared.Role.{Role}
 use Rattle.file_format.specs.Layout.{length_of}

@@ -1,5 +1,6 @@
 -- Files of document 01's examples, as bytes.
-use Rattle.base_lists.specs.Kit.{List, [], ◌∷◌, ℕ}
+use Rattle.std.specs.Prelude.{◌∷◌}
+use Rattle.base_lists.specs.Kit.{List, [], ℕ}
 
 -- T: "0:10, 1:20, 2:30, links 0-1, 1-2."
 unfoldable pub file_t : List ℕ

@@ -1,5 +1,6 @@
 -- A node's label: its kind and its package as one number, 32 bits. A match needs both, so that a circuit has one list of labels.
-use Rattle.base_lists.specs.Kit.{List, ℕ, ◌+◌, ◌*◌, ◌/◌, ◌%◌, length, get_or}
+use Rattle.std.specs.Prelude.{◌+◌, ◌*◌, ◌/◌, ◌%◌}
+use Rattle.base_lists.specs.Kit.{List, ℕ, length, get_or}
 use Rattle.base_lists.specs.List.{tabulate}
 
 -- the kind, and 65,536 times the package: a node of package 0 has its kind for a label

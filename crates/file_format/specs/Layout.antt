@@ -1,5 +1,6 @@
 -- The layout of a circuit file: its fields, and where each stretch begins, in every edition. Reading and writing both cite this.
-use Rattle.base_lists.specs.Kit.{List, ℕ, ◌+◌, ◌*◌, get_or, drop}
+use Rattle.std.specs.Prelude.{◌+◌, ◌*◌}
+use Rattle.base_lists.specs.Kit.{List, ℕ, get_or, drop}
 use Rattle.base_lists.specs.List.{tabulate}
 use Rattle.file_format.specs.declared.Edition.{Edition}
 use Rattle.file_format.specs.declared.Edition.TheVariants.{First, Second}

@@ -1,5 +1,6 @@
 -- What is asked of a circuit's links.
-use Rattle.base_lists.specs.Kit.{Bool, ◌&&◌, ◌||◌, List, ℕ, ◌+◌, ◌-◌, ◌*◌, eqb, ltb, length, get_or}
+use Rattle.std.specs.Prelude.{◌&&◌, ◌||◌, ◌+◌, ◌-◌, ◌*◌}
+use Rattle.base_lists.specs.Kit.{Bool, List, ℕ, eqb, ltb, length, get_or}
 use Rattle.base_lists.specs.List.{all, all_below}
 
 -- every start and every end is a node

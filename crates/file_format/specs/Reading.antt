@@ -1,6 +1,7 @@
 -- The call that reads a circuit file, whole: its reply and each table's later content, from the inputs alone; and what a call that goes on
 -- with the circuit knows of a file that was read.
-use Rattle.base_lists.specs.Kit.{◌≡◌, List, [], ◌∷◌, ◌++◌, ℕ, ◌≤◌, T, length, take, drop}
+use Rattle.std.specs.Prelude.{◌≡◌, ◌∷◌, ◌++◌, ◌≤◌}
+use Rattle.base_lists.specs.Kit.{List, [], ℕ, T, length, take, drop}
 use Rattle.graph.specs.Circuit.{Circuit}
 use Rattle.graph.specs.Search.{radius}
 use Rattle.file_format.specs.declared.FileRead.{FileRead}

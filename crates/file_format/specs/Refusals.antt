@@ -1,6 +1,7 @@
 -- The numbers of refusal, as document 01's table has them, and those of document 02: each condition with its number and the file that it
 -- means. A call's list has them in the order in which they are tried.
-use Rattle.base_lists.specs.Kit.{◌≡◌, Bool, false, true, cond, ◌&&◌, not, List, [], ◌∷◌, ◌++◌, MemOf, ℕ, ◌≤◌, T, eqb, ltb, length}
+use Rattle.std.specs.Prelude.{◌≡◌, ◌&&◌, ◌∷◌, ◌++◌, ◌≤◌}
+use Rattle.base_lists.specs.Kit.{Bool, false, true, cond, not, List, [], MemOf, ℕ, T, eqb, ltb, length}
 use Rattle.graph.specs.Search.{far, connected, radius}
 use Rattle.base_lists.specs.List.{any}
 use Rattle.file_format.specs.declared.Edition.{Edition}

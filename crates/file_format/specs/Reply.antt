@@ -1,6 +1,7 @@
 -- What a call answers, in document 01's terms: "The answer is either a result or a refusal that holds its number and, inside it, which
 -- file was meant". Each answer enum has a definition that gives this for each of its cases.
-use Rattle.base_lists.specs.Kit.{List, [], ◌∷◌, ℕ}
+use Rattle.std.specs.Prelude.{◌∷◌}
+use Rattle.base_lists.specs.Kit.{List, [], ℕ}
 use Rattle.file_format.specs.declared.ReadAnswer.{ReadAnswer}
 use Rattle.file_format.specs.declared.ReadAnswer.TheVariants.{Read, Refused}
 use Rattle.file_format.specs.Refusals.{Verdict, accept, refuse}

@@ -1,5 +1,6 @@
 -- Roles: "Each role carries its own maxima".
-use Rattle.base_lists.specs.Kit.{Bool, ◌&&◌, ℕ, leb}
+use Rattle.std.specs.Prelude.{◌&&◌}
+use Rattle.base_lists.specs.Kit.{Bool, ℕ, leb}
 use Rattle.file_format.specs.declared.Role.{Role}
 use Rattle.file_format.specs.declared.Role.TheVariants.{Pattern, Board, AnyPattern}
 use Rattle.file_format.specs.declared.File.{File}

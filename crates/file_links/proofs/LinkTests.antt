@@ -1,5 +1,6 @@
 -- Laws of the tests on links, for the loops that go through them. Assumes nothing.
-use Rattle.base_lists.specs.Kit.{◌≡◌, ◌∙◌, sym, ap, refl, ◌⊎◌, inl, inr, Bool, false, true, List, ℕ, ◌≤◌, ◌<◌, ◌+◌, ◌-◌, le_trans, le_of_eq, eq-or-lt_of_le, ltb, ltb→lt, lt→ltb, length, get_or, arith, ltb-false, ltb-true}
+use Rattle.std.specs.Prelude.{◌≡◌, ◌⊎◌, ◌≤◌, ◌<◌, ◌+◌, ◌-◌}
+use Rattle.base_lists.specs.Kit.{◌∙◌, sym, ap, refl, inl, inr, Bool, false, true, List, ℕ, le_trans, le_of_eq, eq-or-lt_of_le, ltb, ltb→lt, lt→ltb, length, get_or, arith, ltb-false, ltb-true}
 use native.Mathlib.Decide.{dec_lt}
 use Rattle.base_lists.specs.List.{all}
 use Rattle.base_lists.proofs.Tests.{all-at, at_all, all_below-at, at-all_below, T_true, T_false}

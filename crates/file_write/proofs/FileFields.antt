@@ -1,5 +1,6 @@
 -- The fields of a written file, and the bytes of a file's fields: writing and reading undo each other. Assumes nothing.
-use Rattle.base_lists.specs.Kit.{◌≡◌, ◌∙◌, sym, ap, refl, ap₂, List, [], ◌∷◌, ◌++◌, append-nil, append_assoc, ℕ, ◌<◌, ◌+◌, suc, zero, ◌*◌, ◌/◌, ◌%◌, le_of_eq, T, ltb, ltb→lt, length, get_or, take, drop, length-append, length-take-le, take_all, drop_at, get_or-drop, arith}
+use Rattle.std.specs.Prelude.{◌≡◌, ◌∷◌, ◌++◌, ◌<◌, ◌+◌, ◌*◌, ◌/◌, ◌%◌}
+use Rattle.base_lists.specs.Kit.{◌∙◌, sym, ap, refl, ap₂, List, [], append-nil, append_assoc, ℕ, suc, zero, le_of_eq, T, ltb, ltb→lt, length, get_or, take, drop, length-append, length-take-le, take_all, drop_at, get_or-drop, arith}
 use Rattle.base_lists.specs.List.{all, tabulate}
 use Rattle.base_lists.proofs.Tables.{tabulate-same, tabulate-append}
 use Rattle.base_lists.proofs.Tests.{both_left, both_right}

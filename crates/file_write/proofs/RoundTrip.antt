@@ -1,6 +1,7 @@
 -- Reading and writing undo each other, over all inputs: what was written reads back as the same circuit, what was read writes back to
 -- the same bytes, and a circuit has one file. Assumes nothing.
-use Rattle.base_lists.specs.Kit.{◌≡◌, ◌∙◌, sym, ap, refl, ap₂, ◌↔◌, List, ◌++◌, ℕ, ◌≤◌, le_of_eq, T, ltb, length, get_or, take, drop, take_at, take_all, arith}
+use Rattle.std.specs.Prelude.{◌≡◌, ◌↔◌, ◌++◌, ◌≤◌}
+use Rattle.base_lists.specs.Kit.{◌∙◌, sym, ap, refl, ap₂, List, ℕ, le_of_eq, T, ltb, length, get_or, take, drop, take_at, take_all, arith}
 use Rattle.base_lists.specs.List.{all, Below}
 use Rattle.base_lists.proofs.Tests.{T_true}
 use Rattle.graph.specs.Circuit.{Circuit, HasLink}

@@ -1,5 +1,6 @@
 -- What the writing call comes to, by cases of the verdict. Assumes nothing.
-use Rattle.base_lists.specs.Kit.{◌≡◌, refl, Bool, false, true, cond, ◌&&◌, not, List, ℕ, ◌≤◌, ◌<◌, T, eqb, eqb→eq, length, eq-eqb, le-ltb, lt-ltb, ltb-false}
+use Rattle.std.specs.Prelude.{◌≡◌, ◌&&◌, ◌≤◌, ◌<◌}
+use Rattle.base_lists.specs.Kit.{refl, Bool, false, true, cond, not, List, ℕ, T, eqb, eqb→eq, length, eq-eqb, le-ltb, lt-ltb, ltb-false}
 use Rattle.base_lists.proofs.Tests.{not-true-false, both_left, both_right}
 use Rattle.file_format.specs.declared.File.TheVariants.{Neither}
 use Rattle.file_format.specs.declared.Refusal.{Refusal}

@@ -1,5 +1,6 @@
 -- The call that writes a circuit file, whole: its reply and the later content of the bytes lent, from the inputs alone.
-use Rattle.base_lists.specs.Kit.{Bool, ◌&&◌, not, List, [], ◌∷◌, ◌++◌, ℕ, eqb, length}
+use Rattle.std.specs.Prelude.{◌&&◌, ◌∷◌, ◌++◌}
+use Rattle.base_lists.specs.Kit.{Bool, not, List, [], ℕ, eqb, length}
 use Rattle.file_format.specs.declared.Edition.{Edition}
 use Rattle.file_format.specs.declared.Role.{Role}
 use Rattle.file_format.specs.Layout.{package_count, length_of}

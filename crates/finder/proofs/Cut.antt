@@ -1,6 +1,7 @@
 -- Of a file the program reads at most a byte more than the longest that its role accepts: the report of what is read so is the report of
 -- the whole files. Assumes nothing.
-use Rattle.base_lists.specs.Kit.{◌≡◌, ◌∙◌, refl, ap₂, List, ℕ}
+use Rattle.std.specs.Prelude.{◌≡◌}
+use Rattle.base_lists.specs.Kit.{◌∙◌, refl, ap₂, List, ℕ}
 use Rattle.file_format.specs.declared.Edition.TheVariants.{First}
 use Rattle.file_format.specs.declared.Role.TheVariants.{Pattern, Board}
 use Rattle.file_format.specs.Layout.{first_edition}

@@ -1,5 +1,6 @@
 -- How a run of the program ends.
-use Rattle.base_lists.specs.Kit.{◌≡◌, Bool, false, true, List, ℕ, take}
+use Rattle.std.specs.Prelude.{◌≡◌}
+use Rattle.base_lists.specs.Kit.{Bool, false, true, List, ℕ, take}
 use Rattle.file_format.specs.Layout.{first_edition}
 use Rattle.finder_read.specs.declared.Files.{Files}
 use Rattle.finder_pieces.specs.Handed.{ReportHanded}

@@ -1,5 +1,6 @@
 -- What is handed to standard output.
-use Rattle.base_lists.specs.Kit.{◌≡◌, Bool, false, true, List, ◌++◌, ℕ, ◌≤◌}
+use Rattle.std.specs.Prelude.{◌≡◌, ◌++◌, ◌≤◌}
+use Rattle.base_lists.specs.Kit.{Bool, false, true, List, ℕ}
 use Rattle.file_format.specs.Layout.{CircuitFile}
 use Rattle.report.specs.Report.{report_of}
 use Rattle.report_answer.specs.Whole.{items_of, prefix_of}

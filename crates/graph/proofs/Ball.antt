@@ -1,5 +1,6 @@
 -- The rows of specs/Search mean walks: a ball's row marks the nodes that a walk of at most r links joins to the centre. Assumes nothing.
-use Rattle.base_lists.specs.Kit.{◌≡◌, ◌∙◌, sym, ap, refl, subst, ◌↔◌, ⊎_elim, ◌⊎◌, inl, inr, ⊎_swap, Bool, cond, ◌&&◌, ◌||◌, List, [], ◌∷◌, ℕ, ◌≤◌, ◌<◌, ◌+◌, suc, zero, zero-le, suc-le-suc, not-suc-le-zero, le_of_suc-le-suc, zero-lt-suc, eq-or-lt_of_le, le_antisymm, le_step, T, eqb, ltb, eqb→eq, ltb→lt, length, get_or, arith, eq-eqb}
+use Rattle.std.specs.Prelude.{◌≡◌, ◌↔◌, ◌⊎◌, ◌&&◌, ◌||◌, ◌∷◌, ◌≤◌, ◌<◌, ◌+◌}
+use Rattle.base_lists.specs.Kit.{◌∙◌, sym, ap, refl, subst, ⊎_elim, inl, inr, ⊎_swap, Bool, cond, List, [], ℕ, suc, zero, zero-le, suc-le-suc, not-suc-le-zero, le_of_suc-le-suc, zero-lt-suc, eq-or-lt_of_le, le_antisymm, le_step, T, eqb, ltb, eqb→eq, ltb→lt, length, get_or, arith, eq-eqb}
 use Rattle.base_lists.specs.List.{tabulate, sum, all}
 use Rattle.base_lists.proofs.Tests.{both_true, both_left, both_right, either_left, either-right, either-cases, true-T, all-at, cond-test, cond-le, is-cond, cond-mono}
 use Rattle.base_lists.proofs.Tables.{length-tabulate, get_d_tabulate}

@@ -1,7 +1,8 @@
 -- Breadth-first search finds the distances: what it leaves for each node is `far`, where every walk to the node is longer than the radius,
 -- and else the length of a shortest walk. The nodes are any n numbers, and the links any relation that the adjacency function lists.
 -- Assumes nothing.
-use Rattle.base_lists.specs.Kit.{◌≡◌, ◌∙◌, sym, ap, refl, subst, ⊎_elim, ◌⊎◌, inl, inr, Bool, false, true, ◌||◌, List, [], ℕ, ◌≤◌, ◌<◌, ◌+◌, suc, zero, zero-le, le_refl, eq-or-lt_of_le, add-zero, zero-add, add-suc, suc-add, le-suc_iff, T, eqb, length, get_or, drop, replicate, length-replicate, get_or-replicate, get_or-set_other, get_or-set_same, arith, eq-eqb, ne_eqb, eqb-true, eqb-false}
+use Rattle.std.specs.Prelude.{◌≡◌, ◌⊎◌, ◌||◌, ◌≤◌, ◌<◌, ◌+◌}
+use Rattle.base_lists.specs.Kit.{◌∙◌, sym, ap, refl, subst, ⊎_elim, inl, inr, Bool, false, true, List, [], ℕ, suc, zero, zero-le, le_refl, eq-or-lt_of_le, add-zero, zero-add, add-suc, suc-add, le-suc_iff, T, eqb, length, get_or, drop, replicate, length-replicate, get_or-replicate, get_or-set_other, get_or-set_same, arith, eq-eqb, ne_eqb, eqb-true, eqb-false}
 use Rattle.base_lists.proofs.Tests.{T_true, true-T, lt-or-le}
 use Rattle.graph.specs.Graph.{Walk, stay, step}
 use Rattle.graph.specs.Search.{far}

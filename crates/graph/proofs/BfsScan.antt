@@ -1,5 +1,6 @@
 -- What a list of visits makes of the entries and of the frontier of a breadth-first search. Assumes nothing.
-use Rattle.base_lists.specs.Kit.{◌≡◌, ◌∙◌, sym, ap, refl, subst, ◌↔◌, ⊎_elim, ◌⊎◌, inl, inr, Bool, false, true, cond, ◌||◌, or-false, or-true, List, [], ◌∷◌, ◌++◌, ℕ, ◌≤◌, ◌<◌, le_refl, T, eqb, eqb→eq, eqb_refl, length, get_or, drop, set, length-append, get_or-eq_default, drop_of_length-le, get_or-set_other, get_or-set_same, drop-length, drop-append-le, arith, eq-eqb, ne_eqb, eqb-true, eqb-false}
+use Rattle.std.specs.Prelude.{◌≡◌, ◌↔◌, ◌⊎◌, ◌||◌, ◌∷◌, ◌++◌, ◌≤◌, ◌<◌}
+use Rattle.base_lists.specs.Kit.{◌∙◌, sym, ap, refl, subst, ⊎_elim, inl, inr, Bool, false, true, cond, or-false, or-true, List, [], ℕ, le_refl, T, eqb, eqb→eq, eqb_refl, length, get_or, drop, set, length-append, get_or-eq_default, drop_of_length-le, get_or-set_other, get_or-set_same, drop-length, drop-append-le, arith, eq-eqb, ne_eqb, eqb-true, eqb-false}
 use Rattle.base_lists.specs.List.{any, Below}
 use Rattle.base_lists.proofs.Tests.{either_left, either-right, either-cases, any_at, at-any, true-T, lt-or-le}
 use Rattle.graph.specs.Search.{far}

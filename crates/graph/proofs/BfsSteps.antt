@@ -1,5 +1,6 @@
 -- Each step of a breadth-first search keeps a state of a search, on lists and on the tables that stand for it. Assumes nothing.
-use Rattle.base_lists.specs.Kit.{◌≡◌, ◌∙◌, sym, ap, refl, subst, Bool, false, true, cond, List, [], ◌∷◌, ◌++◌, append-nil, append_assoc, ℕ, ◌≤◌, ◌<◌, ◌+◌, ◌-◌, suc, zero, suc-le-suc, not-suc-le-zero, le_refl, le_of_suc-le-suc, zero-lt-suc, add-one, eqb, length, get_or, take, drop, set, length-set, length-append, replicate, drop_of_length-le, length-replicate, get_or-replicate, length-take-le, drop-cons, get_or-take, take-append-le, take-suc-set, arith, eq-eqb, ne_eqb, eqb-true, eqb-false}
+use Rattle.std.specs.Prelude.{◌≡◌, ◌∷◌, ◌++◌, ◌≤◌, ◌<◌, ◌+◌, ◌-◌}
+use Rattle.base_lists.specs.Kit.{◌∙◌, sym, ap, refl, subst, Bool, false, true, cond, List, [], append-nil, append_assoc, ℕ, suc, zero, suc-le-suc, not-suc-le-zero, le_refl, le_of_suc-le-suc, zero-lt-suc, add-one, eqb, length, get_or, take, drop, set, length-set, length-append, replicate, drop_of_length-le, length-replicate, get_or-replicate, length-take-le, drop-cons, get_or-take, take-append-le, take-suc-set, arith, eq-eqb, ne_eqb, eqb-true, eqb-false}
 use Rattle.graph.specs.Net.{driven, driving}
 use Rattle.graph.specs.Bfs.{SearchState, visit, scan, level, levels, start, adjacent, missing, SearchReady, state_of, Searching, Searched, Found}
 use Rattle.base_lists.specs.List.{Below}

@@ -1,5 +1,6 @@
 -- Choosing in place, entry by entry: the chosen ones of those passed stand in front, and those to come are as they were. Assumes nothing.
-use Rattle.base_lists.specs.Kit.{◌≡◌, ◌∙◌, sym, ap, refl, ap₂, Bool, false, true, cond, List, [], ◌∷◌, ◌++◌, append-nil, ℕ, ◌≤◌, ◌<◌, ◌+◌, suc, zero, add-zero, add-one, length, get_or, take, set, length-set, length-take-le, get_or-set_other, take_all, take-suc, take-suc-set, arith, eq-eqb, ne_eqb}
+use Rattle.std.specs.Prelude.{◌≡◌, ◌∷◌, ◌++◌, ◌≤◌, ◌<◌, ◌+◌}
+use Rattle.base_lists.specs.Kit.{◌∙◌, sym, ap, refl, ap₂, Bool, false, true, cond, List, [], append-nil, ℕ, suc, zero, add-zero, add-one, length, get_or, take, set, length-set, length-take-le, get_or-set_other, take_all, take-suc, take-suc-set, arith, eq-eqb, ne_eqb}
 use Rattle.base_lists.specs.Below.{keep_from}
 use Rattle.graph.specs.Chosen.{picked}
 use Rattle.graph.specs.Search.{inside}

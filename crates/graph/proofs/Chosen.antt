@@ -1,5 +1,6 @@
 -- Choosing entries and links by a test of their index, or by a byte for each: which links the kept lists hold. Assumes nothing.
-use Rattle.base_lists.specs.Kit.{◌≡◌, ap, refl, subst, ◌↔◌, Bool, false, true, cond, List, [], ◌∷◌, ℕ, ◌≤◌, ◌<◌, ◌+◌, suc, zero, zero-le, not-suc-le-zero, add-zero, T, length, get_or, arith}
+use Rattle.std.specs.Prelude.{◌≡◌, ◌↔◌, ◌∷◌, ◌≤◌, ◌<◌, ◌+◌}
+use Rattle.base_lists.specs.Kit.{ap, refl, subst, Bool, false, true, cond, List, [], ℕ, suc, zero, zero-le, not-suc-le-zero, add-zero, T, length, get_or, arith}
 use Rattle.base_lists.specs.List.{Below}
 use Rattle.base_lists.specs.Below.{keep_from}
 use Rattle.base_lists.proofs.Tests.{true-T, T_true}

@@ -1,5 +1,6 @@
 -- The distances, the radius and the test of connectedness of specs/Search are those of specs/Graph. Assumes nothing.
-use Rattle.base_lists.specs.Kit.{◌≡◌, ◌∙◌, sym, ap, refl, subst, ◌↔◌, ⊎_elim, ◌⊎◌, inl, inr, ◌≢◌, Bool, false, true, cond, not, List, [], ◌∷◌, ℕ, ◌≤◌, ◌<◌, ◌+◌, ◌-◌, suc, zero, zero-le, le_refl, le_trans, zero-add, le_antisymm, lt_of_not-le, not-le_of_lt, T, eqb, lit<, length, get_or, ext_get_or, arith, eq-eqb, ne_eqb}
+use Rattle.std.specs.Prelude.{◌≡◌, ◌↔◌, ◌⊎◌, ◌≢◌, ◌∷◌, ◌≤◌, ◌<◌, ◌+◌, ◌-◌}
+use Rattle.base_lists.specs.Kit.{◌∙◌, sym, ap, refl, subst, ⊎_elim, inl, inr, Bool, false, true, cond, not, List, [], ℕ, suc, zero, zero-le, le_refl, le_trans, zero-add, le_antisymm, lt_of_not-le, not-le_of_lt, T, eqb, lit<, length, get_or, ext_get_or, arith, eq-eqb, ne_eqb}
 use Rattle.base_lists.specs.List.{all, tabulate, maximum}
 use Rattle.base_lists.proofs.Tests.{T_true, T_false, decide, all-at, at_all}
 use Rattle.base_lists.proofs.Tables.{length-tabulate, get_d_tabulate, is-tabulate}

@@ -1,5 +1,6 @@
 -- Laws of the stretch of a neighbour table. Assumes nothing.
-use Rattle.base_lists.specs.Kit.{◌≡◌, Bool, ◌&&◌, List, [], ℕ, ◌≤◌, ◌<◌, ◌-◌, suc, T, ltb, leb, ltb→lt, lt→ltb, le→leb, leb→le, length, get_or, take, drop}
+use Rattle.std.specs.Prelude.{◌≡◌, ◌&&◌, ◌≤◌, ◌<◌, ◌-◌}
+use Rattle.base_lists.specs.Kit.{Bool, List, [], ℕ, suc, T, ltb, leb, ltb→lt, lt→ltb, le→leb, leb→le, length, get_or, take, drop}
 use Rattle.base_lists.proofs.Tests.{both_true, both_left, both_right, T_true, T_false}
 use Rattle.graph.specs.Neighbours.{stretch}
 

@@ -1,5 +1,6 @@
 -- What the search finds over the neighbour tables of a circuit are the distances. Assumes nothing.
-use Rattle.base_lists.specs.Kit.{◌≡◌, inl, inr, List, ℕ, ◌<◌, arith}
+use Rattle.std.specs.Prelude.{◌≡◌, ◌<◌}
+use Rattle.base_lists.specs.Kit.{inl, inr, List, ℕ, arith}
 use Rattle.graph.specs.Bfs.{Adjacency, Measured, bfs, adjacent}
 use Rattle.graph.specs.Circuit.{HasLink, graph_of}
 use Rattle.graph.specs.Net.{NetOf}

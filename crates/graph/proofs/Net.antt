@@ -1,5 +1,6 @@
 -- Laws of neighbour tables that are handed on as two lists: what filling them leaves, and what a caller may take from them. Assumes nothing.
-use Rattle.base_lists.specs.Kit.{◌≡◌, ◌∙◌, sym, subst, ◌↔◌, ⊎_elim, ◌⊎◌, inl, inr, List, ◌++◌, ℕ, ◌≤◌, ◌<◌, suc, le_refl, T, ltb, lt→ltb, length, get_or, length-append, get_or-take, arith}
+use Rattle.std.specs.Prelude.{◌≡◌, ◌↔◌, ◌⊎◌, ◌++◌, ◌≤◌, ◌<◌}
+use Rattle.base_lists.specs.Kit.{◌∙◌, sym, subst, ⊎_elim, inl, inr, List, ℕ, suc, le_refl, T, ltb, lt→ltb, length, get_or, length-append, get_or-take, arith}
 use Rattle.base_lists.specs.List.{all, part, Occurs, Below}
 use Rattle.base_lists.proofs.Parts.{length-part-le, halved, part-first, part-second, length-halved}
 use Rattle.base_lists.proofs.Tests.{at_all}

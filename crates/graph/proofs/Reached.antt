@@ -1,6 +1,7 @@
 -- The list of the nodes that a search has reached agrees with the entries: it has each node whose entry is not `far`, and each once.
 -- Assumes nothing.
-use Rattle.base_lists.specs.Kit.{◌≡◌, ◌∙◌, sym, ap, refl, subst, ⊎_elim, ◌⊎◌, inl, inr, List, [], ◌∷◌, ◌++◌, ℕ, ◌≤◌, ◌<◌, ◌+◌, suc, zero, zero-le, suc-le-suc, le_refl, zero-lt-suc, length, get_or, drop, set, length-append, replicate, length-replicate, get_or-replicate, get_or-append, get_or-set_other, get_or-set_same, get_or-append_seam, arith}
+use Rattle.std.specs.Prelude.{◌≡◌, ◌⊎◌, ◌∷◌, ◌++◌, ◌≤◌, ◌<◌, ◌+◌}
+use Rattle.base_lists.specs.Kit.{◌∙◌, sym, ap, refl, subst, ⊎_elim, inl, inr, List, [], ℕ, suc, zero, zero-le, suc-le-suc, le_refl, zero-lt-suc, length, get_or, drop, set, length-append, replicate, length-replicate, get_or-replicate, get_or-append, get_or-set_other, get_or-set_same, get_or-append_seam, arith}
 use Rattle.base_lists.specs.List.{Occurs, Below}
 use Rattle.base_lists.proofs.Entries.{occurs-one, one-occurs, below-drop}
 use Rattle.base_lists.proofs.Tests.{lt-or-le, eq-or-not}

@@ -1,5 +1,6 @@
 -- Links in strictly rising order are determined by which links there are. Assumes nothing.
-use Rattle.base_lists.specs.Kit.{◌≡◌, ◌∙◌, sym, refl, subst, ap₂, ◌⊎◌, inl, inr, List, [], ◌∷◌, ℕ, ◌<◌, suc, zero, suc-le-suc, not-suc-le-zero, zero-lt-suc, length, get_or, arith}
+use Rattle.std.specs.Prelude.{◌≡◌, ◌⊎◌, ◌∷◌, ◌<◌}
+use Rattle.base_lists.specs.Kit.{◌∙◌, sym, refl, subst, ap₂, inl, inr, List, [], ℕ, suc, zero, suc-le-suc, not-suc-le-zero, zero-lt-suc, length, get_or, arith}
 use Rattle.graph.specs.Circuit.{LinkAt, HasLink}
 use Rattle.graph.specs.Rising.{LinksRise}
 use Rattle.graph.proofs.Ball.{link-later, link-earlier, link-first}

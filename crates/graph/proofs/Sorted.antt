@@ -1,6 +1,7 @@
 -- Where starts do not fall, a node's links are a stretch of the file's order, the one that its two offsets bound; and the forward link table has
 -- the ends in the file's order. Assumes nothing.
-use Rattle.base_lists.specs.Kit.{◌≡◌, ◌∙◌, sym, ap, refl, ◌↔◌, ⊎_elim, Bool, false, true, cond, List, [], ◌∷◌, ℕ, ◌≤◌, ◌<◌, ◌+◌, ◌-◌, suc, zero, suc-le-suc, not-suc-le-zero, le_of_suc-le-suc, zero-lt-suc, le_of_eq, suc_inj, eqb, ltb, eqb→eq, eqb_refl, length, get_or, drop, get_or-take, get_or-drop, arith, le-ltb, lt-ltb, ltb-false, ltb-true}
+use Rattle.std.specs.Prelude.{◌≡◌, ◌↔◌, ◌∷◌, ◌≤◌, ◌<◌, ◌+◌, ◌-◌}
+use Rattle.base_lists.specs.Kit.{◌∙◌, sym, ap, refl, ⊎_elim, Bool, false, true, cond, List, [], ℕ, suc, zero, suc-le-suc, not-suc-le-zero, le_of_suc-le-suc, zero-lt-suc, le_of_eq, suc_inj, eqb, ltb, eqb→eq, eqb_refl, length, get_or, drop, get_or-take, get_or-drop, arith, le-ltb, lt-ltb, ltb-false, ltb-true}
 use Rattle.base_lists.specs.List.{Below}
 use Rattle.base_lists.proofs.Tests.{true-T, false-T}
 use Rattle.graph.specs.Neighbours.{select, below, stretch}

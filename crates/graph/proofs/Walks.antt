@@ -1,5 +1,6 @@
 -- Laws of walks and distances, over any links and any graph. Assumes nothing.
-use Rattle.base_lists.specs.Kit.{◌≡◌, sym, subst, ◌⊎◌, ⊎_swap, ℕ, ◌≤◌, ◌+◌, suc, zero-add, le_antisymm, suc-add}
+use Rattle.std.specs.Prelude.{◌≡◌, ◌⊎◌, ◌≤◌, ◌+◌}
+use Rattle.base_lists.specs.Kit.{sym, subst, ⊎_swap, ℕ, suc, zero-add, le_antisymm, suc-add}
 use Rattle.graph.specs.Graph.{Graph, Walk, stay, step, Distance, Radius}
 
 -- ---- walks

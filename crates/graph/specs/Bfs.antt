@@ -1,6 +1,7 @@
 -- Breadth-first search as a computation on lists, over any adjacency function: what the contracts of the search cite.
 -- proofs/Bfs ties it to the walks of Graph.
-use Rattle.base_lists.specs.Kit.{◌≡◌, ◌↔◌, ◌⊎◌, cond, List, [], ◌∷◌, ◌++◌, ℕ, ◌≤◌, ◌<◌, ◌+◌, suc, zero, eqb, length, get_or, take, drop, set, replicate}
+use Rattle.std.specs.Prelude.{◌≡◌, ◌↔◌, ◌⊎◌, ◌∷◌, ◌++◌, ◌≤◌, ◌<◌, ◌+◌}
+use Rattle.base_lists.specs.Kit.{cond, List, [], ℕ, suc, zero, eqb, length, get_or, take, drop, set, replicate}
 use Rattle.base_lists.specs.List.{Occurs, Below}
 use Rattle.graph.specs.Graph.{Walk}
 use Rattle.graph.specs.Net.{driven, driving}

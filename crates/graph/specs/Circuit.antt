@@ -1,5 +1,6 @@
 -- A circuit's graph. A circuit is given by how many nodes it has and by two parallel lists, the link starts and the link ends.
-use Rattle.base_lists.specs.Kit.{◌≡◌, List, ℕ, ◌<◌, length, get_or}
+use Rattle.std.specs.Prelude.{◌≡◌, ◌<◌}
+use Rattle.base_lists.specs.Kit.{List, ℕ, length, get_or}
 use Rattle.graph.specs.Graph.{Graph}
 
 -- The i-th link goes from the i-th start to the i-th end.

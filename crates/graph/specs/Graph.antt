@@ -1,6 +1,7 @@
 -- What is meant by graph, subgraph, distance, ball, radius and connected. Sets are arbitrary predicates on numbers, so "every subgraph"
 -- is every one, and not only those that a program can build. The quoted sentences are document 01's.
-use Rattle.base_lists.specs.Kit.{◌≡◌, ◌↔◌, ◌⊎◌, ◌≢◌, ℕ, ◌≤◌, suc, zero}
+use Rattle.std.specs.Prelude.{◌≡◌, ◌↔◌, ◌⊎◌, ◌≢◌, ◌≤◌}
+use Rattle.base_lists.specs.Kit.{ℕ, suc, zero}
 
 -- A directed graph: which numbers are its nodes, and from which node to which it has a link.
 pub record Graph : Type 1 where

@@ -1,6 +1,7 @@
 -- The neighbour tables of a graph of at most 512 nodes and 4,096 links, as they are handed on: one list has the offsets of the forward
 -- table and then those of the backward one, with room for 513 each; another has the two link tables, with room for 4,096 each.
-use Rattle.base_lists.specs.Kit.{◌≡◌, List, ℕ, ◌≤◌, ◌<◌, suc, length, get_or}
+use Rattle.std.specs.Prelude.{◌≡◌, ◌≤◌, ◌<◌}
+use Rattle.base_lists.specs.Kit.{List, ℕ, suc, length, get_or}
 use Rattle.base_lists.specs.List.{part, Below}
 use Rattle.graph.specs.Neighbours.{select, below, stretch}
 

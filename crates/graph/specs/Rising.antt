@@ -1,5 +1,6 @@
 -- "Links rise strictly by start, then by end", and lists that rise strictly.
-use Rattle.base_lists.specs.Kit.{◌≡◌, ◌⊎◌, List, ℕ, ◌<◌, length, get_or}
+use Rattle.std.specs.Prelude.{◌≡◌, ◌⊎◌, ◌<◌}
+use Rattle.base_lists.specs.Kit.{List, ℕ, length, get_or}
 
 -- each entry is below every later one
 unfoldable pub Rising : List ℕ → Type 0

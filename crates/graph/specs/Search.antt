@@ -1,5 +1,6 @@
 -- Distance, ball, radius and connectedness computed by rounds: what the contracts cite. proofs/ ties them to the definitions of Graph.
-use Rattle.base_lists.specs.Kit.{Bool, false, cond, ◌&&◌, not, ◌||◌, List, [], ◌∷◌, ℕ, ◌+◌, suc, zero, eqb, get_or}
+use Rattle.std.specs.Prelude.{◌&&◌, ◌||◌, ◌∷◌, ◌+◌}
+use Rattle.base_lists.specs.Kit.{Bool, false, cond, not, List, [], ℕ, suc, zero, eqb, get_or}
 use Rattle.base_lists.specs.List.{all, tabulate, maximum}
 
 -- the entry of a node that no walk within the radius reaches

@@ -1,5 +1,6 @@
 -- Laws of following links to nodes by their sets. Assumes nothing.
-use Rattle.base_lists.specs.Kit.{◌≡◌, ◌∙◌, sym, ap, refl, subst, ◌↔◌, ⊎_elim, ◌⊎◌, inl, inr, Bool, false, true, cond, ◌&&◌, List, [], ◌∷◌, ℕ, ◌≤◌, ◌<◌, ◌+◌, suc, zero, ◌^◌, suc-le-suc, not-suc-le-zero, le_of_suc-le-suc, zero-lt-suc, add-one, T, length, get_or, drop, drop_of_length-le, drop-cons}
+use Rattle.std.specs.Prelude.{◌≡◌, ◌↔◌, ◌⊎◌, ◌&&◌, ◌∷◌, ◌≤◌, ◌<◌, ◌+◌, ◌^◌}
+use Rattle.base_lists.specs.Kit.{◌∙◌, sym, ap, refl, subst, ⊎_elim, inl, inr, Bool, false, true, cond, List, [], ℕ, suc, zero, suc-le-suc, not-suc-le-zero, le_of_suc-le-suc, zero-lt-suc, add-one, T, length, get_or, drop, drop_of_length-le, drop-cons}
 use Rattle.base_lists.specs.List.{Occurs, Below}
 use Rattle.base_lists.proofs.Tests.{both_true, T_true, T_false, true-T, false-T, at-any_below}
 use Rattle.base_lists.proofs.Entries.{below-append}

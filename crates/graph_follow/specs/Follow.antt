@@ -1,5 +1,6 @@
 -- Following links to nodes by their sets: what the search for a component does, and what lists the nodes that a round has to look at.
-use Rattle.base_lists.specs.Kit.{cond, List, [], ◌∷◌, ◌++◌, ℕ, get_or}
+use Rattle.std.specs.Prelude.{◌∷◌, ◌++◌}
+use Rattle.base_lists.specs.Kit.{cond, List, [], ℕ, get_or}
 use Rattle.base_bits.specs.Bits.{intersects}
 use Rattle.graph.specs.Bfs.{SearchState, visit}
 use Rattle.graph.specs.Net.{driven, driving}

@@ -1,5 +1,6 @@
 -- Those of a list's nodes that pass a test: how many they are, and one node more. Assumes nothing.
-use Rattle.base_lists.specs.Kit.{◌≡◌, ◌∙◌, ap, refl, Bool, false, true, cond, List, [], ◌∷◌, ◌++◌, ℕ, ◌≤◌, ◌<◌, ◌+◌, suc, zero-le, suc-le-suc, le_step, add-one, length, get_or, take, length-append, take-suc}
+use Rattle.std.specs.Prelude.{◌≡◌, ◌∷◌, ◌++◌, ◌≤◌, ◌<◌, ◌+◌}
+use Rattle.base_lists.specs.Kit.{◌∙◌, ap, refl, Bool, false, true, cond, List, [], ℕ, suc, zero-le, suc-le-suc, le_step, add-one, length, get_or, take, length-append, take-suc}
 use Rattle.graph_gather.specs.Having.{having}
 
 module _ (p : ℕ → Bool) where

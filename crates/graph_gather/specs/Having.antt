@@ -1,5 +1,6 @@
 -- Those of a list's nodes that pass a test, as that of having a number.
-use Rattle.base_lists.specs.Kit.{Bool, cond, List, [], ◌∷◌, ℕ, eqb, get_or}
+use Rattle.std.specs.Prelude.{◌∷◌}
+use Rattle.base_lists.specs.Kit.{Bool, cond, List, [], ℕ, eqb, get_or}
 
 unfoldable pub having : (ℕ → Bool) → List ℕ → List ℕ
 having p [] = []

@@ -1,5 +1,6 @@
 -- Laws of the lookup. Assumes nothing.
-use Rattle.base_lists.specs.Kit.{◌≡◌, ap, List, ℕ, ◌<◌, ◌+◌, suc, add-one, get_or}
+use Rattle.std.specs.Prelude.{◌≡◌, ◌<◌, ◌+◌}
+use Rattle.base_lists.specs.Kit.{ap, List, ℕ, suc, add-one, get_or}
 use Rattle.base_lists.specs.List.{Below}
 use Rattle.graph.specs.Net.{Net}
 use Rattle.graph.proofs.Net.{driven-below, driving-below}

@@ -1,5 +1,6 @@
 -- The balls as sets: what is in each, the balls at radius 0 and 1, and one round. Assumes nothing.
-use Rattle.base_lists.specs.Kit.{◌≡◌, ◌∙◌, sym, ap, refl, subst, ◌↔◌, ⊎_elim, ◌⊎◌, inl, inr, ⊎_swap, Bool, false, true, ◌&&◌, ◌||◌, or-false, List, [], ℕ, ◌≤◌, ◌<◌, ◌+◌, suc, ◌^◌, lt_of_lt_of_le, not-le_of_lt, T, eqb, eqb→eq, length, get_or, take, set, length-set, length-take, get_or-set_other, get_or-set_same, get_or-take, arith, eq-eqb, eqb-true, eqb-false}
+use Rattle.std.specs.Prelude.{◌≡◌, ◌↔◌, ◌⊎◌, ◌&&◌, ◌||◌, ◌≤◌, ◌<◌, ◌+◌, ◌^◌}
+use Rattle.base_lists.specs.Kit.{◌∙◌, sym, ap, refl, subst, ⊎_elim, inl, inr, ⊎_swap, Bool, false, true, or-false, List, [], ℕ, suc, lt_of_lt_of_le, not-le_of_lt, T, eqb, eqb→eq, length, get_or, take, set, length-set, length-take, get_or-set_other, get_or-set_same, get_or-take, arith, eq-eqb, eqb-true, eqb-false}
 use native.Mathlib.Decide.{dec_lt}
 use lib.Bits.{bit_or}
 use Rattle.base_bits.specs.Bits.{bit, number_of}

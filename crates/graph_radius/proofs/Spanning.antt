@@ -1,6 +1,7 @@
 -- The radius by balls: it is the first radius at which every ball has every node, and `far` where there is none; and a circuit is connected
 -- exactly when its radius is not `far`. Assumes nothing.
-use Rattle.base_lists.specs.Kit.{◌≡◌, ◌∙◌, sym, ap, refl, subst, ap₂, ⊎_elim, ◌≢◌, false, true, not, List, ℕ, ◌≤◌, ◌<◌, ◌+◌, suc, zero, ◌^◌, not-suc-le-zero, le_of_suc-le-suc, le_trans, le_of_eq, eq-or-lt_of_le, le_antisymm, pow-suc, add-one, T, eqb, ltb, eqb→eq, not_T, T_not, length, get_or, arith, eq-eqb}
+use Rattle.std.specs.Prelude.{◌≡◌, ◌≢◌, ◌≤◌, ◌<◌, ◌+◌, ◌^◌}
+use Rattle.base_lists.specs.Kit.{◌∙◌, sym, ap, refl, subst, ap₂, ⊎_elim, false, true, not, List, ℕ, suc, zero, not-suc-le-zero, le_of_suc-le-suc, le_trans, le_of_eq, eq-or-lt_of_le, le_antisymm, pow-suc, add-one, T, eqb, ltb, eqb→eq, not_T, T_not, length, get_or, arith, eq-eqb}
 use native.Mathlib.Decide.{dec_lt}
 use Rattle.base_bits.specs.Bits.{bit, number_of}
 use Rattle.base_bits.proofs.Digits.{same-bits-below}

@@ -1,5 +1,6 @@
 -- The balls around all nodes of a circuit at once, each a set of nodes as a number.
-use Rattle.base_lists.specs.Kit.{◌≡◌, Bool, true, List, ℕ, ◌^◌, T, eqb, ltb, length, get_or, set}
+use Rattle.std.specs.Prelude.{◌≡◌, ◌^◌}
+use Rattle.base_lists.specs.Kit.{Bool, true, List, ℕ, T, eqb, ltb, length, get_or, set}
 use Rattle.std.specs.Int.Bits.{bit_or}
 use Rattle.base_bits.specs.Bits.{number_of, union_over}
 use Rattle.base_lists.specs.List.{all, tabulate}

@@ -1,6 +1,7 @@
 -- A search that has reached every node: nothing that it looks at changes it, so that all that is left of it is what it
 -- has. Assumes nothing.
-use Rattle.base_lists.specs.Kit.{◌≡◌, ◌∙◌, ap, refl, cond, Bool, false, true, List, [], ◌∷◌, ℕ, suc, zero, suc-ne-zero, eqb, get_or, ◌-◌, ◌+◌, length, take, drop, arith}
+use Rattle.std.specs.Prelude.{◌≡◌, ◌∷◌, ◌-◌, ◌+◌}
+use Rattle.base_lists.specs.Kit.{◌∙◌, ap, refl, cond, Bool, false, true, List, [], ℕ, suc, zero, suc-ne-zero, eqb, get_or, length, take, drop, arith}
 use Rattle.graph.specs.Bfs.{SearchState, visit, scan, level, levels, missing, state_of, Searching}
 use Rattle.graph.specs.Search.{far}
 use Rattle.graph.proofs.BfsSteps.{reached-length}

@@ -1,6 +1,7 @@
 -- A search as its tables hold it, over any adjacency function: what a turn of its loop does, and what it has found where it stops. The loops of `advance`, of
 -- `place_component::reach` and of the searches that go on by `advance` have this for their invariant. Assumes nothing.
-use Rattle.base_lists.specs.Kit.{◌≡◌, ◌∙◌, sym, ap, refl, false, true, ◌||◌, List, ℕ, ◌≤◌, ◌<◌, ◌+◌, not-suc-le-zero, eqb, length, get_or, get_or-take, arith}
+use Rattle.std.specs.Prelude.{◌≡◌, ◌||◌, ◌≤◌, ◌<◌, ◌+◌}
+use Rattle.base_lists.specs.Kit.{◌∙◌, sym, ap, refl, false, true, List, ℕ, not-suc-le-zero, eqb, length, get_or, get_or-take, arith}
 use Rattle.graph.specs.Bfs.{SearchState, scan, start, state_of, Searching, Searched}
 use Rattle.graph.proofs.BfsSteps.{tail-le, reached-length, queue-node}
 use Rattle.graph_search.specs.declared.Frontier.{Frontier}

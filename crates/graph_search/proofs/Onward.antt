@@ -1,6 +1,7 @@
 -- A search that goes on from where it stands: what is left of it is the same after each look and after each level, so that from the centre it finds what `bfs` finds,
 -- or the first of that. Assumes nothing.
-use Rattle.base_lists.specs.Kit.{◌≡◌, ◌∙◌, sym, ap, refl, subst, ⊎_elim, ◌⊎◌, inl, inr, Bool, false, true, ◌||◌, List, ◌++◌, ℕ, ◌≤◌, ◌<◌, ◌+◌, ◌-◌, suc, zero, le_refl, le_trans, not-suc-le-zero, sub-zero, eqb, length, get_or, take, drop, take-append-drop, min-le_right, length-take, length-take-le, take-take, get_or-take, take-length, arith, eqb-true, eqb-false}
+use Rattle.std.specs.Prelude.{◌≡◌, ◌⊎◌, ◌||◌, ◌++◌, ◌≤◌, ◌<◌, ◌+◌, ◌-◌}
+use Rattle.base_lists.specs.Kit.{◌∙◌, sym, ap, refl, subst, ⊎_elim, inl, inr, Bool, false, true, List, ℕ, suc, zero, le_refl, le_trans, not-suc-le-zero, sub-zero, eqb, length, get_or, take, drop, take-append-drop, min-le_right, length-take, length-take-le, take-take, get_or-take, take-length, arith, eqb-true, eqb-false}
 use Rattle.base_lists.specs.List.{Occurs, Below}
 use Rattle.base_lists.proofs.Tests.{false-T}
 use Rattle.graph.specs.Bfs.{SearchState, scan, level, levels, start, bfs, missing, Adjacency}

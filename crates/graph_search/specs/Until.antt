@@ -1,6 +1,7 @@
 -- A breadth-first search that goes on from where it stands, and one that stops where it has reached enough, over any adjacency function: what the contracts of
 -- the searches cite. Both say what they find by `bfs`.
-use Rattle.base_lists.specs.Kit.{◌≡◌, List, ◌++◌, ℕ, ◌≤◌, ◌<◌, ◌-◌, length, take, drop}
+use Rattle.std.specs.Prelude.{◌≡◌, ◌++◌, ◌≤◌, ◌<◌, ◌-◌}
+use Rattle.base_lists.specs.Kit.{List, ℕ, length, take, drop}
 use Rattle.graph.specs.Bfs.{SearchState, level, levels, bfs}
 use Rattle.graph_search.specs.declared.Frontier.{Frontier}
 

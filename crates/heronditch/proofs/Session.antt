@@ -1,5 +1,6 @@
 -- The promises of a session's calls, as a host program sees them. Assumes nothing.
-use Rattle.base_lists.specs.Kit.{◌≡◌, ◌∙◌, sym, ap, refl, ap₂, List, [], ◌∷◌, ℕ, length}
+use Rattle.std.specs.Prelude.{◌≡◌, ◌∷◌}
+use Rattle.base_lists.specs.Kit.{◌∙◌, sym, ap, refl, ap₂, List, [], ℕ, length}
 use Rattle.graph.specs.Circuit.{circuit_graph}
 use Rattle.simulation.specs.Simulation.{Largest}
 use Rattle.file_format.specs.Circuit.{circuit_of}

@@ -1,5 +1,6 @@
 -- The calls of a session as a host program sees them: each reply as a struct of numbers, and what the lent tables hold.
-use Rattle.base_lists.specs.Kit.{◌≡◌, List, [], ◌∷◌, map, ℕ}
+use Rattle.std.specs.Prelude.{◌≡◌, ◌∷◌}
+use Rattle.base_lists.specs.Kit.{List, [], map, ℕ}
 use Rattle.file_format.specs.Circuit.{circuit_of}
 use Rattle.file_format.specs.Layout.{CircuitFile}
 use Rattle.file_format.specs.Reading.{filled}

@@ -1,5 +1,6 @@
 -- Replies as a host program sees them: structs of numbers, in which number 0 stands for acceptance.
-use Rattle.base_lists.specs.Kit.{List, [], ◌∷◌, ℕ, length, get_or}
+use Rattle.std.specs.Prelude.{◌∷◌}
+use Rattle.base_lists.specs.Kit.{List, [], ℕ, length, get_or}
 use Rattle.file_format.specs.declared.File.{File}
 use Rattle.file_format.specs.declared.File.TheVariants.{Pattern, Board, Neither}
 use Rattle.file_format.specs.Reading.{filled}

@@ -1,5 +1,6 @@
 -- What the program tells of a test board. Assumes nothing.
-use Rattle.base_lists.specs.Kit.{◌≡◌, ◌∙◌, sym, ap, refl, List, [], ◌∷◌, ℕ, ◌≤◌, length, take, arith}
+use Rattle.std.specs.Prelude.{◌≡◌, ◌∷◌, ◌≤◌}
+use Rattle.base_lists.specs.Kit.{◌∙◌, sym, ap, refl, List, [], ℕ, length, take, arith}
 use Rattle.file_format.specs.declared.Refusal.{Refusal}
 use Rattle.file_format.specs.declared.Edition.TheVariants.{First}
 use Rattle.file_format.specs.Layout.{length_of}

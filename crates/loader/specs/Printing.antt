@@ -1,5 +1,6 @@
 -- What the program hands over and tells of a test board.
-use Rattle.base_lists.specs.Kit.{◌≡◌, List, ℕ, length, take}
+use Rattle.std.specs.Prelude.{◌≡◌}
+use Rattle.base_lists.specs.Kit.{List, ℕ, length, take}
 use Rattle.test_board.specs.Board.{InRange}
 use Rattle.call_test_board.specs.Call.{test_board_bytes}
 use Rattle.loader_words.specs.declared.Word.{Word}

@@ -1,5 +1,6 @@
 -- A word gone through digit by digit. Assumes nothing.
-use Rattle.base_lists.specs.Kit.{◌≡◌, ◌∙◌, sym, ap, refl, false, true, ◌&&◌, and-false, List, [], ◌∷◌, ℕ, ◌≤◌, ◌<◌, ◌+◌, ◌-◌, ◌*◌, ◌^◌, le_refl, le_trans, add-one, T, ltb, leb, leb→le, length, get_or, drop, drop-cons, drop-length, arith, le-ltb, lt-ltb, le-leb, lt-leb}
+use Rattle.std.specs.Prelude.{◌≡◌, ◌&&◌, ◌∷◌, ◌≤◌, ◌<◌, ◌+◌, ◌-◌, ◌*◌, ◌^◌}
+use Rattle.base_lists.specs.Kit.{◌∙◌, sym, ap, refl, false, true, and-false, List, [], ℕ, le_refl, le_trans, add-one, T, ltb, leb, leb→le, length, get_or, drop, drop-cons, drop-length, arith, le-ltb, lt-ltb, le-leb, lt-leb}
 use Rattle.base_lists.specs.List.{all}
 use Rattle.base_lists.proofs.Tests.{true-T, both_left, both_right}
 use Rattle.loader_words.specs.declared.Word.TheVariants.{Number, NoNumber}

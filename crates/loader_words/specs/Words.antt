@@ -1,6 +1,6 @@
 -- Numbers as words, and the four that the program is told.
-use Rattle.base_lists.specs.Kit.{◌≡◌, Bool, cond, ◌&&◌, List, [], ◌∷◌, ℕ, ◌≤◌, ◌+◌, ◌-◌, ◌*◌, ◌^◌, eqb, ltb, leb, length, take}
-use Rattle.std.specs.Prelude.{Option, Some, None}
+use Rattle.base_lists.specs.Kit.{Bool, cond, List, [], ℕ, eqb, ltb, leb, length, take}
+use Rattle.std.specs.Prelude.{Option, Some, None, ◌≡◌, ◌&&◌, ◌∷◌, ◌≤◌, ◌+◌, ◌-◌, ◌*◌, ◌^◌}
 use Rattle.std.specs.declared.env.FillError.{FillError}
 use Rattle.base_lists.specs.List.{all}
 use Rattle.loader_words.specs.declared.Word.{Word}

@@ -1,6 +1,7 @@
 -- Merging a pattern gives a pattern: the merged circuit meets every condition on the content of a pattern file, is no longer and has no
 -- larger radius. Assumes nothing.
-use Rattle.base_lists.specs.Kit.{◌≤◌, length}
+use Rattle.std.specs.Prelude.{◌≤◌}
+use Rattle.base_lists.specs.Kit.{length}
 use Rattle.graph.specs.Circuit.{Circuit}
 use Rattle.file_format.specs.declared.Edition.{Edition}
 use Rattle.file_format.specs.Layout.{length_of}

@@ -1,6 +1,7 @@
 -- The classes of a pattern's parts: sharing a class is matching each other, and classes are numbered by their smallest part, rising.
 -- Assumes nothing.
-use Rattle.base_lists.specs.Kit.{◌≡◌, ◌∙◌, sym, ap, subst, ◌↔◌, Bool, ℕ, ◌≤◌, ◌<◌, zero-le, lt_of_le_of_lt, T, eqb→eq, length, get_or, eq-eqb}
+use Rattle.std.specs.Prelude.{◌≡◌, ◌↔◌, ◌≤◌, ◌<◌}
+use Rattle.base_lists.specs.Kit.{◌∙◌, sym, ap, subst, Bool, ℕ, zero-le, lt_of_le_of_lt, T, eqb→eq, length, get_or, eq-eqb}
 use Rattle.base_lists.specs.Below.{count_below}
 use Rattle.base_lists.proofs.Tests.{both_true, both_left, both_right, true-T, same_test}
 use Rattle.base_lists.proofs.Tables.{length-tabulate, get_d_tabulate}

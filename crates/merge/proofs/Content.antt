@@ -1,5 +1,6 @@
 -- A circuit that can be the content of a pattern file. Assumes nothing.
-use Rattle.base_lists.specs.Kit.{◌≡◌, ◌∙◌, sym, ◌≤◌, ◌<◌, le_trans, T, ltb, lit≤, length}
+use Rattle.std.specs.Prelude.{◌≡◌, ◌≤◌, ◌<◌}
+use Rattle.base_lists.specs.Kit.{◌∙◌, sym, le_trans, T, ltb, lit≤, length}
 use Rattle.base_lists.specs.List.{all}
 use Rattle.base_lists.proofs.Tests.{both_left, both_right}
 use Rattle.graph.specs.Circuit.{Circuit, circuit_graph}

@@ -1,5 +1,6 @@
 -- Document 01's examples of merging, by computation. Assumes nothing.
-use Rattle.base_lists.specs.Kit.{◌≡◌, ◌∙◌, ap, refl, subst, List, [], ◌∷◌, ℕ, lit≤}
+use Rattle.std.specs.Prelude.{◌≡◌, ◌∷◌}
+use Rattle.base_lists.specs.Kit.{◌∙◌, ap, refl, subst, List, [], ℕ, lit≤}
 use Rattle.base_lists.specs.List.{all, all_below, any_below, tabulate, maximum}
 use Rattle.base_lists.specs.Below.{least_below, collect}
 use Rattle.base_bits.specs.Bits.{bit}

@@ -1,6 +1,7 @@
 -- A grouping of a pattern's parts, its members of the same kind, makes a pattern: it is the quotient of the pattern by the grouping, meets every
 -- condition on the content of a pattern file, is no longer and has no larger radius. Assumes nothing.
-use Rattle.base_lists.specs.Kit.{◌≡◌, ◌∙◌, sym, ap, refl, subst, ap₂, ◌↔◌, Bool, ◌&&◌, List, ℕ, ◌≤◌, ◌<◌, zero-le, le_trans, lt_of_le_of_lt, T, eqb, ltb, eqb→eq, leb, lt→ltb, le→leb, length, get_or, arith, eq-eqb}
+use Rattle.std.specs.Prelude.{◌≡◌, ◌↔◌, ◌&&◌, ◌≤◌, ◌<◌}
+use Rattle.base_lists.specs.Kit.{◌∙◌, sym, ap, refl, subst, ap₂, Bool, List, ℕ, zero-le, le_trans, lt_of_le_of_lt, T, eqb, ltb, eqb→eq, leb, lt→ltb, le→leb, length, get_or, arith, eq-eqb}
 use Rattle.base_lists.specs.List.{all}
 use Rattle.base_lists.proofs.Tests.{both_true, both_left, both_right, true-T, any_below-at, at-any_below, at_all}
 use Rattle.base_lists.proofs.Tables.{length-tabulate, get_d_tabulate, tabulate-same}

@@ -1,6 +1,7 @@
 -- The classes are a grouping of the parts, and the merged pattern, which that grouping makes, is the quotient of the pattern by its classes.
 -- Assumes nothing.
-use Rattle.base_lists.specs.Kit.{◌≡◌, ◌∙◌, sym, ap, List, ℕ, ◌<◌, T, eqb→eq, length, get_or, ext_get_or}
+use Rattle.std.specs.Prelude.{◌≡◌, ◌<◌}
+use Rattle.base_lists.specs.Kit.{◌∙◌, sym, ap, List, ℕ, T, eqb→eq, length, get_or, ext_get_or}
 use Rattle.base_lists.specs.Below.{collect}
 use Rattle.base_lists.proofs.Below.{length-collect}
 use Rattle.base_lists.proofs.Ranks.{collect-rank}

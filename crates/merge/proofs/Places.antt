@@ -1,6 +1,7 @@
 -- Merging keeps what is found: at every centre and every radius the pattern and the merged pattern have the same place, and the bytes
 -- that mark it are the same. Assumes nothing.
-use Rattle.base_lists.specs.Kit.{◌≡◌, sym, ap, refl, subst, ap₂, fun_ext, ◌↔◌, iff_rfl, Bool, cond, ◌&&◌, List, ℕ, ◌<◌, zero, length, get_or}
+use Rattle.std.specs.Prelude.{◌≡◌, ◌↔◌, ◌&&◌, ◌<◌}
+use Rattle.base_lists.specs.Kit.{sym, ap, refl, subst, ap₂, fun_ext, iff_rfl, Bool, cond, List, ℕ, zero, length, get_or}
 use Rattle.base_lists.specs.List.{tabulate}
 use Rattle.base_lists.proofs.Tests.{same_test}
 use Rattle.graph.specs.Circuit.{Circuit, graph_of, circuit_graph}

@@ -1,5 +1,6 @@
 -- The circuits of document 01's examples of merging that the place's examples do not have.
-use Rattle.base_lists.specs.Kit.{[], ◌∷◌}
+use Rattle.std.specs.Prelude.{◌∷◌}
+use Rattle.base_lists.specs.Kit.{[]}
 use Rattle.graph.specs.Circuit.{Circuit}
 
 -- E8: "0:10, 1:20, 2:20, 3:30, links 0-1, 0-2, 2-3"

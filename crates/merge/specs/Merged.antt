@@ -1,6 +1,7 @@
 -- The merged pattern, computed. (Class and merged pattern are document 01's terms: the classes are those of mutual matching, and the
 -- merged pattern is the quotient graph.) proofs/ ties this to simulation's Quotient.
-use Rattle.base_lists.specs.Kit.{◌≡◌, Bool, ◌&&◌, List, ℕ, eqb, length, get_or}
+use Rattle.std.specs.Prelude.{◌≡◌, ◌&&◌}
+use Rattle.base_lists.specs.Kit.{Bool, List, ℕ, eqb, length, get_or}
 use Rattle.base_lists.specs.Below.{count_below, least_below, collect}
 use Rattle.base_lists.specs.List.{any_below, tabulate}
 use Rattle.graph.specs.Circuit.{Circuit}

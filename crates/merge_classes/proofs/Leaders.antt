@@ -1,5 +1,6 @@
 -- The smallest part of a class, looked for among the members of a set, lowest first. Assumes nothing.
-use Rattle.base_lists.specs.Kit.{◌≡◌, ◌∙◌, sym, ap, ⊎_elim, Bool, false, ◌&&◌, and-true, and-false, List, ℕ, ◌<◌, zero, ◌^◌, eq-or-lt_of_le, T, length, get_or, ne_eqb}
+use Rattle.std.specs.Prelude.{◌≡◌, ◌&&◌, ◌<◌, ◌^◌}
+use Rattle.base_lists.specs.Kit.{◌∙◌, sym, ap, ⊎_elim, Bool, false, and-true, and-false, List, ℕ, zero, eq-or-lt_of_le, T, length, get_or, ne_eqb}
 use native.Mathlib.Decide.{ℕ_discrete}
 use Rattle.base_lists.specs.Below.{least_below}
 use Rattle.base_lists.proofs.Below.{least_below-same, least_below-le, least_below-at, least_below-is}

@@ -1,5 +1,6 @@
 -- One pass over the parts numbers the classes, and one collects the kinds of their smallest parts. Assumes nothing.
-use Rattle.base_lists.specs.Kit.{◌≡◌, ◌∙◌, sym, ap, refl, Bool, false, true, List, [], ◌∷◌, ◌++◌, append-nil, ℕ, ◌<◌, ◌+◌, add-zero, add-one, length, get_or, drop, set, get_or-append, sets, arith, eq-eqb, ne_eqb}
+use Rattle.std.specs.Prelude.{◌≡◌, ◌∷◌, ◌++◌, ◌<◌, ◌+◌}
+use Rattle.base_lists.specs.Kit.{◌∙◌, sym, ap, refl, Bool, false, true, List, [], append-nil, ℕ, add-zero, add-one, length, get_or, drop, set, get_or-append, sets, arith, eq-eqb, ne_eqb}
 use Rattle.base_lists.specs.Below.{count_below, collect}
 use Rattle.base_lists.specs.List.{tabulate}
 use Rattle.base_lists.proofs.Below.{count_below-suc, collect-suc, length-collect}

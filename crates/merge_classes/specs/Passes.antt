@@ -1,5 +1,6 @@
 -- What the passes of merging ask and leave: from a pattern's table on itself to its classes and the merged pattern.
-use Rattle.base_lists.specs.Kit.{◌≡◌, List, ℕ, ◌≤◌, ◌<◌, ◌^◌, length, get_or, take}
+use Rattle.std.specs.Prelude.{◌≡◌, ◌≤◌, ◌<◌, ◌^◌}
+use Rattle.base_lists.specs.Kit.{List, ℕ, length, get_or, take}
 use Rattle.base_lists.specs.Below.{count_below, collect}
 use Rattle.base_lists.specs.List.{tabulate}
 use Rattle.graph.specs.Circuit.{Circuit, circuit}

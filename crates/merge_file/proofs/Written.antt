@@ -1,5 +1,6 @@
 -- The merged pattern, made at the front of three tables: writing it as a pattern of either edition gives its file, and is not refused. Assumes nothing.
-use Rattle.base_lists.specs.Kit.{◌≡◌, ◌∙◌, sym, ap, refl, subst, true, List, [], ℕ, ◌≤◌, ◌<◌, le_trans, T, le_of_eq, lit≤, length, get_or, take, get_or-eq_default, arith, le-ltb}
+use Rattle.std.specs.Prelude.{◌≡◌, ◌≤◌, ◌<◌}
+use Rattle.base_lists.specs.Kit.{◌∙◌, sym, ap, refl, subst, true, List, [], ℕ, le_trans, T, le_of_eq, lit≤, length, get_or, take, get_or-eq_default, arith, le-ltb}
 use native.Mathlib.Decide.{dec_lt}
 use Rattle.base_lists.proofs.Tests.{T_true}
 use Rattle.base_lists.specs.List.{Below}

@@ -1,5 +1,6 @@
 -- What merging a pattern that was read leaves.
-use Rattle.base_lists.specs.Kit.{◌≡◌, List, ℕ, length}
+use Rattle.std.specs.Prelude.{◌≡◌}
+use Rattle.base_lists.specs.Kit.{List, ℕ, length}
 use Rattle.graph.specs.Circuit.{Circuit}
 use Rattle.file_format.specs.declared.Edition.{Edition}
 use Rattle.file_format.specs.Reading.{filled}

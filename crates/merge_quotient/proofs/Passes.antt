@@ -1,5 +1,6 @@
 -- From a pattern's table on itself the passes make its classes and its quotient by them, the merged pattern. Assumes nothing.
-use Rattle.base_lists.specs.Kit.{◌≡◌, ◌∙◌, sym, ap, List, [], ℕ, ◌≤◌, ◌<◌, le_trans, lt_of_lt_of_le, length, get_or, take, sets, arith, ltb-false}
+use Rattle.std.specs.Prelude.{◌≡◌, ◌≤◌, ◌<◌}
+use Rattle.base_lists.specs.Kit.{◌∙◌, sym, ap, List, [], ℕ, le_trans, lt_of_lt_of_le, length, get_or, take, sets, arith, ltb-false}
 use Rattle.base_lists.proofs.Tests.{not-true-false}
 use Rattle.base_lists.specs.List.{Below}
 use Rattle.base_lists.proofs.Entries.{all-below}

@@ -1,5 +1,6 @@
 -- Which comparison decides, by computation. Assumes nothing.
-use Rattle.base_lists.specs.Kit.{◌≡◌, refl}
+use Rattle.std.specs.Prelude.{◌≡◌}
+use Rattle.base_lists.specs.Kit.{refl}
 use Rattle.order.specs.declared.Order.TheVariants.{Less}
 use Rattle.order.specs.Order.{compare_whole}
 use Rattle.order.specs.Examples.{order_computed, linked_both, three_nodes, linked_once, other_package, opposite_way, high_byte}

@@ -1,5 +1,6 @@
 -- Circuits of which one comparison says one thing and a later one another.
-use Rattle.base_lists.specs.Kit.{[], ◌∷◌}
+use Rattle.std.specs.Prelude.{◌∷◌}
+use Rattle.base_lists.specs.Kit.{[]}
 use Rattle.order.specs.Order.{Whole, followed, compare_numbers, compare_lists, compare_whole}
 
 -- `unfolding order_computed` opens the comparison

@@ -1,5 +1,5 @@
 -- What it is for a comparison to be an order.
-use Rattle.base_lists.specs.Kit.{◌≡◌, ◌↔◌}
+use Rattle.std.specs.Prelude.{◌≡◌, ◌↔◌}
 use Rattle.order.specs.declared.Order.{Order}
 use Rattle.order.specs.declared.Order.TheVariants.{Less, Equal, Greater}
 use Rattle.order.specs.Order.{opposite}

@@ -1,5 +1,6 @@
 -- The ball's table is the largest dual simulation of the pattern in the ball, and a centre is found where it occurs in that. Assumes nothing.
-use Rattle.base_lists.specs.Kit.{◌≡◌, ◌∙◌, sym, ap, subst, ◌↔◌, iff_rfl, not, not-not, ℕ, ◌≤◌, T, length, get_or}
+use Rattle.std.specs.Prelude.{◌≡◌, ◌↔◌, ◌≤◌}
+use Rattle.base_lists.specs.Kit.{◌∙◌, sym, ap, subst, iff_rfl, not, not-not, ℕ, T, length, get_or}
 use Rattle.base_lists.specs.List.{any_below}
 use Rattle.base_lists.proofs.Tests.{any_below-at, at-any_below}
 use Rattle.base_bits.specs.Bits.{bit}

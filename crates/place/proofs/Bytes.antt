@@ -1,5 +1,6 @@
 -- What the filling functions write is the place: its bytes and its table. Assumes nothing.
-use Rattle.base_lists.specs.Kit.{◌≡◌, ◌∙◌, sym, ap, refl, subst, Bool, false, true, cond, ◌&&◌, not, List, ℕ, ◌<◌, eqb, length, get_or}
+use Rattle.std.specs.Prelude.{◌≡◌, ◌&&◌, ◌<◌}
+use Rattle.base_lists.specs.Kit.{◌∙◌, sym, ap, refl, subst, Bool, false, true, cond, not, List, ℕ, eqb, length, get_or}
 use Rattle.base_lists.specs.List.{tabulate, Below}
 use Rattle.base_lists.proofs.Tables.{is-tabulate, tabulate-same}
 use Rattle.base_lists.proofs.Tests.{is-cond, cond-not}

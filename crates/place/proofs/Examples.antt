@@ -1,5 +1,6 @@
 -- Document 01's examples of places, by computation. Assumes nothing.
-use Rattle.base_lists.specs.Kit.{◌≡◌, refl, List, [], ◌∷◌, ℕ, ◌<◌, suc, zero, T, arith}
+use Rattle.std.specs.Prelude.{◌≡◌, ◌∷◌, ◌<◌}
+use Rattle.base_lists.specs.Kit.{refl, List, [], ℕ, suc, zero, T, arith}
 use Rattle.base_lists.specs.List.{any_below, maximum}
 use Rattle.base_lists.specs.Below.{keep_from}
 use Rattle.graph.specs.Circuit.{Circuit}

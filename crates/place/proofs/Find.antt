@@ -1,5 +1,6 @@
 -- Finding the place from a first table: from what it starts from to what it comes to, and what is then marked. Assumes nothing.
-use Rattle.base_lists.specs.Kit.{◌≡◌, ◌∙◌, sym, ap, refl, subst, Bool, false, true, cond, not, List, ℕ, ◌≤◌, ◌<◌, ◌^◌, zero-le, T, eqb, length, get_or, take, eqb-false}
+use Rattle.std.specs.Prelude.{◌≡◌, ◌≤◌, ◌<◌, ◌^◌}
+use Rattle.base_lists.specs.Kit.{◌∙◌, sym, ap, refl, subst, Bool, false, true, cond, not, List, ℕ, zero-le, T, eqb, length, get_or, take, eqb-false}
 use Rattle.base_lists.specs.List.{Below}
 use Rattle.base_lists.proofs.Tests.{true-T, false-T}
 use Rattle.base_lists.proofs.Tables.{tabulate-same}

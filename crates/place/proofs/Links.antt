@@ -1,5 +1,6 @@
 -- The links that match: what the test means, and that the kept lists hold the links of the match graph. Assumes nothing.
-use Rattle.base_lists.specs.Kit.{◌≡◌, sym, refl, subst, ap₂, ◌↔◌, Bool, ◌&&◌, List, ℕ, ◌<◌, T, length, get_or}
+use Rattle.std.specs.Prelude.{◌≡◌, ◌↔◌, ◌&&◌, ◌<◌}
+use Rattle.base_lists.specs.Kit.{sym, refl, subst, ap₂, Bool, List, ℕ, T, length, get_or}
 use Rattle.base_lists.proofs.Tests.{both_true, both_left, both_right, any_below-at, at-any_below}
 use Rattle.graph.specs.Circuit.{Circuit, LinkAt, HasLink, graph_of, circuit_graph}
 use Rattle.graph.specs.Graph.{Ball}

@@ -1,6 +1,7 @@
 -- What is marked from the list of the nodes that the search reached is what its entries say: a byte and a set for each node, and a byte for
 -- each link of a board whose links come by their starts. Assumes nothing.
-use Rattle.base_lists.specs.Kit.{◌≡◌, ◌∙◌, ap, refl, subst, Bool, false, true, cond, ◌&&◌, not, List, ℕ, ◌<◌, suc, T, eqb, ltb, eqb→eq, leb, ltb→lt, lt→ltb, le→leb, leb→le, length, get_or, arith, eq-eqb, ne_eqb}
+use Rattle.std.specs.Prelude.{◌≡◌, ◌&&◌, ◌<◌}
+use Rattle.base_lists.specs.Kit.{◌∙◌, ap, refl, subst, Bool, false, true, cond, not, List, ℕ, suc, T, eqb, ltb, eqb→eq, leb, ltb→lt, lt→ltb, le→leb, leb→le, length, get_or, arith, eq-eqb, ne_eqb}
 use Rattle.base_lists.specs.List.{any, Below}
 use Rattle.base_lists.proofs.Tests.{same_test, true-T, both_true, both_left, both_right, any_at, at-any, cond-not}
 use Rattle.base_lists.proofs.Tables.{tabulate-same}

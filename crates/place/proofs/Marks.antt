@@ -1,5 +1,6 @@
 -- The place's bytes and its table, entry by entry. Assumes nothing.
-use Rattle.base_lists.specs.Kit.{◌≡◌, ◌∙◌, sym, ap, subst, ◌↔◌, ⊎_elim, Bool, ◌&&◌, List, ℕ, ◌≤◌, ◌<◌, T, length, get_or, get_or-eq_default, arith}
+use Rattle.std.specs.Prelude.{◌≡◌, ◌↔◌, ◌&&◌, ◌≤◌, ◌<◌}
+use Rattle.base_lists.specs.Kit.{◌∙◌, sym, ap, subst, ⊎_elim, Bool, List, ℕ, T, length, get_or, get_or-eq_default, arith}
 use native.Mathlib.Decide.{dec_lt}
 use Rattle.base_lists.proofs.Tests.{both_true, both_left, both_right, T_true, T_false, false-T, decide}
 use Rattle.base_lists.proofs.Tables.{length-tabulate, get_d_tabulate}

@@ -1,6 +1,7 @@
 -- A link of the board is tested by whole sets: it matches where some part of its end's set is driven by some part of its start's.
 -- Assumes nothing.
-use Rattle.base_lists.specs.Kit.{◌≡◌, ◌∙◌, sym, ap, subst, ◌↔◌, Bool, ◌&&◌, List, ℕ, ◌<◌, ◌^◌, T, eqb, eqb→eq, eqb_refl, length, get_or, get_or-eq_default, arith}
+use Rattle.std.specs.Prelude.{◌≡◌, ◌↔◌, ◌&&◌, ◌<◌, ◌^◌}
+use Rattle.base_lists.specs.Kit.{◌∙◌, sym, ap, subst, Bool, List, ℕ, T, eqb, eqb→eq, eqb_refl, length, get_or, get_or-eq_default, arith}
 use native.Mathlib.Decide.{dec_lt}
 use Rattle.base_lists.proofs.Tests.{both_true, both_left, both_right, false-T, same_test, any_below-at, at-any_below}
 use Rattle.base_lists.proofs.Tables.{get_d_tabulate}

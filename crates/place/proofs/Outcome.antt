@@ -1,5 +1,6 @@
 -- What the place's outcome comes to, by cases of whether the centre is found. Assumes nothing.
-use Rattle.base_lists.specs.Kit.{◌≡◌, ◌∙◌, sym, ap, false, true, List, ◌++◌, ℕ, length, get_or, drop, eq-eqb, ne_eqb}
+use Rattle.std.specs.Prelude.{◌≡◌, ◌++◌}
+use Rattle.base_lists.specs.Kit.{◌∙◌, sym, ap, false, true, List, ℕ, length, get_or, drop, eq-eqb, ne_eqb}
 use Rattle.graph.specs.Circuit.{Circuit}
 use Rattle.file_format.specs.declared.File.TheVariants.{Neither}
 use Rattle.file_format.specs.Reading.{filled}

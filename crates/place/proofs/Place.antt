@@ -1,6 +1,7 @@
 -- What the bytes mark is the place, the perfect subgraph that contains every other; and the centre is not found exactly where there is no
 -- perfect subgraph. Assumes nothing.
-use Rattle.base_lists.specs.Kit.{sym, subst, ◌↔◌, iff_rfl, iff_trans, iff_symm, ℕ, le_refl, le_step, T, length}
+use Rattle.std.specs.Prelude.{◌↔◌}
+use Rattle.base_lists.specs.Kit.{sym, subst, iff_rfl, iff_trans, iff_symm, ℕ, le_refl, le_step, T, length}
 use Rattle.graph.specs.Circuit.{Circuit, HasLink, circuit_graph}
 use Rattle.graph.specs.Graph.{Graph}
 use Rattle.graph.specs.Search.{inside}

@@ -1,5 +1,6 @@
 -- The search for the component: its steps on tables, and that what it reaches is what walks join to the centre. Assumes nothing.
-use Rattle.base_lists.specs.Kit.{◌≡◌, ◌∙◌, sym, ap, refl, subst, ◌↔◌, ⊎_elim, inl, inr, Bool, false, true, ◌&&◌, not, List, ℕ, ◌≤◌, ◌<◌, ◌+◌, suc, zero, suc-le-suc, le_refl, le_of_suc-le-suc, le_step, eq-or-lt_of_le, not-le_of_lt, min-le_right, T, T_not, length, get_or, take, drop, length-take, arith}
+use Rattle.std.specs.Prelude.{◌≡◌, ◌↔◌, ◌&&◌, ◌≤◌, ◌<◌, ◌+◌}
+use Rattle.base_lists.specs.Kit.{◌∙◌, sym, ap, refl, subst, ⊎_elim, inl, inr, Bool, false, true, not, List, ℕ, suc, zero, suc-le-suc, le_refl, le_of_suc-le-suc, le_step, eq-or-lt_of_le, not-le_of_lt, min-le_right, T, T_not, length, get_or, take, drop, length-take, arith}
 use Rattle.base_lists.specs.List.{Occurs, Below}
 use Rattle.base_lists.proofs.Tests.{both_true, both_left, both_right, true-T, lt-or-le}
 use Rattle.base_bits.specs.Bits.{union_over}

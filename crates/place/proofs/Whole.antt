@@ -1,7 +1,8 @@
 -- Laws of the centre's component in the match graph of a larger graph, as the whole board is of a ball. What lies outside the component
 -- supports nothing inside it: so on its nodes a smaller graph's table is that of its nodes in the component alone; and where the smaller graph
 -- has the whole component, its table is the larger graph's there, and the place is that component with its matching links. Assumes nothing.
-use Rattle.base_lists.specs.Kit.{◌≡◌, ap, subst, ◌↔◌, ⊎_elim, ◌⊎◌, inl, inr, Bool, not, List, ℕ, ◌≤◌, ◌<◌, ◌^◌, T, eqb, length, get_or, ne_eqb}
+use Rattle.std.specs.Prelude.{◌≡◌, ◌↔◌, ◌⊎◌, ◌≤◌, ◌<◌, ◌^◌}
+use Rattle.base_lists.specs.Kit.{ap, subst, ⊎_elim, inl, inr, Bool, not, List, ℕ, T, eqb, length, get_or, ne_eqb}
 use Rattle.base_lists.specs.List.{Occurs}
 use Rattle.base_lists.proofs.Tests.{same_test, true-T}
 use Rattle.base_bits.proofs.Digits.{same_bits}

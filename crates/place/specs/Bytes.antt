@@ -1,7 +1,8 @@
 -- What is written into the lent tables: from the entries that the search for the component leaves, `far` outside it, and the same from the
 -- list of the nodes that it reached, which the contracts of the marking functions cite. proofs/Bytes ties the first to the place's bytes and
 -- its table, proofs/Listed the second to the first.
-use Rattle.base_lists.specs.Kit.{Bool, cond, ◌&&◌, List, [], ◌∷◌, ℕ, ◌≤◌, ◌<◌, suc, eqb, ltb, leb, length, get_or}
+use Rattle.std.specs.Prelude.{◌&&◌, ◌∷◌, ◌≤◌, ◌<◌}
+use Rattle.base_lists.specs.Kit.{Bool, cond, List, [], ℕ, suc, eqb, ltb, leb, length, get_or}
 use Rattle.base_lists.specs.List.{any, tabulate}
 use Rattle.base_bits.specs.Bits.{intersects, union_over}
 use Rattle.graph.specs.Net.{forward_offsets, forward_targets}

@@ -1,5 +1,6 @@
 -- Finding the place around a centre from a first table: what it starts from, and what it leaves, before anything is written out.
-use Rattle.base_lists.specs.Kit.{◌≡◌, false, true, List, ℕ, ◌≤◌, ◌<◌, length, get_or, take}
+use Rattle.std.specs.Prelude.{◌≡◌, ◌≤◌, ◌<◌}
+use Rattle.base_lists.specs.Kit.{false, true, List, ℕ, length, get_or, take}
 use Rattle.base_lists.specs.List.{Below}
 use Rattle.graph.specs.Circuit.{Circuit}
 use Rattle.table.specs.Fill.{marks_of, NodeList}

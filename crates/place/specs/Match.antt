@@ -1,6 +1,7 @@
 -- The place around a centre, computed: the ball, the largest dual simulation in it, the links that match, and what they join to the
 -- centre. proofs/ shows that this is the perfect subgraph that contains every other.
-use Rattle.base_lists.specs.Kit.{Bool, cond, ◌&&◌, not, List, ℕ, zero, T, eqb, length, get_or}
+use Rattle.std.specs.Prelude.{◌&&◌}
+use Rattle.base_lists.specs.Kit.{Bool, cond, not, List, ℕ, zero, T, eqb, length, get_or}
 use Rattle.base_lists.specs.List.{any_below, tabulate}
 use Rattle.base_lists.specs.Below.{keep_from}
 use Rattle.graph.specs.Circuit.{Circuit, LinkAt}

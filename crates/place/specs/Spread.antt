@@ -1,6 +1,7 @@
 -- The search for the centre's component: links are followed where they match, which is tested by whole sets. It stops where nothing is
 -- new; proofs/Spread ties what it leaves to walks.
-use Rattle.base_lists.specs.Kit.{◌≡◌, Bool, List, ◌++◌, ℕ, ◌<◌, T, length, get_or}
+use Rattle.std.specs.Prelude.{◌≡◌, ◌++◌, ◌<◌}
+use Rattle.base_lists.specs.Kit.{Bool, List, ℕ, T, length, get_or}
 use Rattle.base_lists.specs.List.{Occurs}
 use Rattle.base_bits.specs.Bits.{union_over}
 use Rattle.graph.specs.Net.{driven, driving}

@@ -1,6 +1,7 @@
 -- Finding in the ball around a centre, from the kinds and from tables: whose links these are of need not be handed on,
 -- and every pattern and board that they are of has the same place.
-use Rattle.base_lists.specs.Kit.{◌≡◌, true, List, ℕ, ◌≤◌, length, take}
+use Rattle.std.specs.Prelude.{◌≡◌, ◌≤◌}
+use Rattle.base_lists.specs.Kit.{true, List, ℕ, length, take}
 use Rattle.graph.specs.Circuit.{Circuit, circuit}
 use Rattle.table.specs.Prepared.{Tables}
 use Rattle.table.specs.Refine.{counts_of}

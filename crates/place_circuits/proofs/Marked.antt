@@ -1,5 +1,6 @@
 -- What is marked from tables that are cut from longer ones is the place. Assumes nothing.
-use Rattle.base_lists.specs.Kit.{◌≡◌, ◌∙◌, ap, ap₂, true, List, ◌++◌, ℕ, ◌≤◌, ◌<◌, suc, length, get_or, take, drop, length-append, take_at, take-append-le, arith}
+use Rattle.std.specs.Prelude.{◌≡◌, ◌++◌, ◌≤◌, ◌<◌}
+use Rattle.base_lists.specs.Kit.{◌∙◌, ap, ap₂, true, List, ℕ, suc, length, get_or, take, drop, length-append, take_at, take-append-le, arith}
 use Rattle.base_lists.proofs.Entries.{all-below}
 use Rattle.graph.specs.Circuit.{Circuit}
 use Rattle.graph.proofs.Groups.{below-le}

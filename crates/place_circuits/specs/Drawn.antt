@@ -1,5 +1,6 @@
 -- The place of a pattern and a board that were read, from the kinds and from tables.
-use Rattle.base_lists.specs.Kit.{◌≡◌, List, ℕ}
+use Rattle.std.specs.Prelude.{◌≡◌}
+use Rattle.base_lists.specs.Kit.{List, ℕ}
 use Rattle.graph.specs.Circuit.{Circuit, circuit}
 use Rattle.file_format.specs.Circuit.{Drawn}
 use Rattle.table.specs.Prepared.{Tables, Prepared}

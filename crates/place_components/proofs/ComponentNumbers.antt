@@ -1,6 +1,7 @@
 -- Naming the components, node by node: where a node has no number yet, neither has any node of its component, and all of them get its number. Two
 -- components are one or apart. Assumes nothing.
-use Rattle.base_lists.specs.Kit.{◌≡◌, ◌∙◌, sym, ap, refl, subst, ⊎_elim, ◌⊎◌, inl, inr, Bool, false, true, cond, ◌&&◌, not, List, ℕ, ◌≤◌, ◌<◌, ◌+◌, suc, not-suc-le-zero, eq-or-lt_of_le, T, eqb, eqb→eq, length, get_or, set, length-set, replicate, length-replicate, get_or-replicate, get_or-set_other, get_or-set_same, arith, eq-eqb, ne_eqb, eqb-true, eqb-false}
+use Rattle.std.specs.Prelude.{◌≡◌, ◌⊎◌, ◌&&◌, ◌≤◌, ◌<◌, ◌+◌}
+use Rattle.base_lists.specs.Kit.{◌∙◌, sym, ap, refl, subst, ⊎_elim, inl, inr, Bool, false, true, cond, not, List, ℕ, suc, not-suc-le-zero, eq-or-lt_of_le, T, eqb, eqb→eq, length, get_or, set, length-set, replicate, length-replicate, get_or-replicate, get_or-set_other, get_or-set_same, arith, eq-eqb, ne_eqb, eqb-true, eqb-false}
 use Rattle.base_lists.specs.List.{Occurs, Below}
 use Rattle.base_lists.proofs.Tests.{true-T, any_at, at-any}
 use Rattle.graph.specs.Bfs.{SearchState, bfs, Adjacency}

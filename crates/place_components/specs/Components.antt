@@ -1,6 +1,7 @@
 -- The components of a match graph, each node with the number of its component: what naming them leaves, and what a search along all links gathers of
 -- them. An adjacency function says what is joined to a node, directions ignored.
-use Rattle.base_lists.specs.Kit.{◌≡◌, Bool, List, ℕ, ◌≤◌, ◌<◌, ◌^◌, length, get_or}
+use Rattle.std.specs.Prelude.{◌≡◌, ◌≤◌, ◌<◌, ◌^◌}
+use Rattle.base_lists.specs.Kit.{Bool, List, ℕ, length, get_or}
 use Rattle.graph.specs.Bfs.{SearchState}
 use Rattle.graph.specs.Circuit.{Circuit}
 use Rattle.graph_search.specs.Until.{Until}

@@ -1,5 +1,6 @@
 -- Laws of marking: writing at the nodes of a list one after another, and the links of one node after another. Assumes nothing.
-use Rattle.base_lists.specs.Kit.{◌≡◌, ◌∙◌, sym, ap, refl, subst, ⊎_elim, ◌⊎◌, inl, inr, Bool, false, true, cond, ◌&&◌, ◌||◌, List, [], ◌∷◌, ◌++◌, ℕ, ◌≤◌, ◌<◌, ◌+◌, ◌-◌, suc, min, add-one, ltb, leb, length, get_or, take, drop, set, length-append, replicate, length-drop, drop_of_length-le, length-replicate, length-take, get_or-replicate, get_or-append, length-take-le, drop-cons, get_or-take, get_or-drop, get_or-append-add, arith, le-ltb, lt-ltb, le-leb, lt-leb}
+use Rattle.std.specs.Prelude.{◌≡◌, ◌⊎◌, ◌&&◌, ◌||◌, ◌∷◌, ◌++◌, ◌≤◌, ◌<◌, ◌+◌, ◌-◌}
+use Rattle.base_lists.specs.Kit.{◌∙◌, sym, ap, refl, subst, ⊎_elim, inl, inr, Bool, false, true, cond, List, [], ℕ, suc, min, add-one, ltb, leb, length, get_or, take, drop, set, length-append, replicate, length-drop, drop_of_length-le, length-replicate, length-take, get_or-replicate, get_or-append, length-take-le, drop-cons, get_or-take, get_or-drop, get_or-append-add, arith, le-ltb, lt-ltb, le-leb, lt-leb}
 use Rattle.base_lists.specs.List.{any, part}
 use Rattle.base_lists.proofs.Tables.{length-tabulate, get_d_tabulate, is-tabulate}
 use Rattle.base_lists.proofs.Tests.{lt-or-le}

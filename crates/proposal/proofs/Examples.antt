@@ -1,5 +1,6 @@
 -- Proposals near the truth, by computation: each at the pattern's radius, unless another is named. Assumes nothing.
-use Rattle.base_lists.specs.Kit.{List, [], ◌∷◌, ℕ, T}
+use Rattle.std.specs.Prelude.{◌∷◌}
+use Rattle.base_lists.specs.Kit.{List, [], ℕ, T}
 use Rattle.graph.specs.Circuit.{Circuit}
 use Rattle.table.specs.Examples.{circuit_t, circuit_b, two_way, ring}
 use Rattle.place.specs.Examples.{circuit_y, circuit_one_link}

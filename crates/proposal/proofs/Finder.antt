@@ -1,6 +1,7 @@
 -- The check and the finder: every place that the finder finds gets a yes, and a yes means that the finder finds a place, which contains all that
 -- was proposed. Assumes nothing.
-use Rattle.base_lists.specs.Kit.{◌≡◌, refl, subst, ⊎_elim, List, ℕ, ◌<◌, T, length, get_or}
+use Rattle.std.specs.Prelude.{◌≡◌, ◌<◌}
+use Rattle.base_lists.specs.Kit.{refl, subst, ⊎_elim, List, ℕ, T, length, get_or}
 use Rattle.base_lists.proofs.Tests.{decide}
 use Rattle.graph.specs.Circuit.{Circuit, LinkAt}
 use Rattle.graph.specs.Graph.{Contains}

@@ -1,6 +1,7 @@
 -- The check says yes exactly when the bytes mark a perfect subgraph around the centre: the marked links make a board of their own, in which a
 -- perfect subgraph that has them all is the place. Assumes nothing.
-use Rattle.base_lists.specs.Kit.{◌≡◌, sym, refl, subst, ◌↔◌, ⊎_elim, iff_rfl, iff_symm, Bool, ◌&&◌, not, ◌||◌, List, ℕ, ◌≤◌, ◌<◌, le_refl, le_step, T, leb, length, get_or, le-leb, leb-true}
+use Rattle.std.specs.Prelude.{◌≡◌, ◌↔◌, ◌&&◌, ◌||◌, ◌≤◌, ◌<◌}
+use Rattle.base_lists.specs.Kit.{sym, refl, subst, ⊎_elim, iff_rfl, iff_symm, Bool, not, List, ℕ, le_refl, le_step, T, leb, length, get_or, le-leb, leb-true}
 use Rattle.base_lists.proofs.Tests.{both_true, both_left, both_right, decide, T_true, true-T, all_below-at, at-all_below, all-at, at_all, unless-at, at-unless}
 use Rattle.base_lists.specs.List.{all_below}
 use Rattle.graph.specs.Chosen.{chosen, ChosenLink}

@@ -1,6 +1,7 @@
 -- Checking a place from elsewhere, computed: the bytes are those of a subgraph of the ball, and this subgraph is the place in itself. A subgraph
 -- of a board is a board with fewer links; proofs/Perfect shows that the answer is yes exactly for a perfect subgraph.
-use Rattle.base_lists.specs.Kit.{Bool, ◌&&◌, not, ◌||◌, List, ℕ, leb, length, get_or}
+use Rattle.std.specs.Prelude.{◌&&◌, ◌||◌}
+use Rattle.base_lists.specs.Kit.{Bool, not, List, ℕ, leb, length, get_or}
 use Rattle.base_lists.specs.List.{all, all_below}
 use Rattle.graph.specs.Chosen.{chosen}
 use Rattle.graph.specs.Circuit.{Circuit}

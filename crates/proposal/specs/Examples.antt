@@ -1,5 +1,6 @@
 -- A board of which proposals are checked by computation, and what is opened there.
-use Rattle.base_lists.specs.Kit.{[], ◌∷◌}
+use Rattle.std.specs.Prelude.{◌∷◌}
+use Rattle.base_lists.specs.Kit.{[]}
 use Rattle.base_lists.specs.List.{all_below, any_below}
 use Rattle.base_lists.specs.Below.{keep_from}
 use Rattle.graph.specs.Chosen.{picked, chosen}

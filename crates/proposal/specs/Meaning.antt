@@ -1,6 +1,7 @@
 -- What a yes means: "Given a pattern, a board, a centre, a byte per node and a byte per link, say yes exactly when these are a perfect subgraph
 -- around the centre at the pattern's radius, largest or not. Bytes other than 0 and 1, or a link whose ends are not both marked, give no."
-use Rattle.base_lists.specs.Kit.{List, ℕ, ◌≤◌, ◌<◌, T, length, get_or}
+use Rattle.std.specs.Prelude.{◌≤◌, ◌<◌}
+use Rattle.base_lists.specs.Kit.{List, ℕ, T, length, get_or}
 use Rattle.graph.specs.Circuit.{Circuit, circuit_graph}
 use Rattle.graph.specs.Search.{inside}
 use Rattle.simulation.specs.Perfect.{Perfect}

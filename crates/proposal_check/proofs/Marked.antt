@@ -1,5 +1,6 @@
 -- What the tests come to, one after another. Assumes nothing.
-use Rattle.base_lists.specs.Kit.{◌≡◌, ◌∙◌, sym, ap, ap₂, false, true, List, ℕ, ◌≤◌, T, ltb, length, arith}
+use Rattle.std.specs.Prelude.{◌≡◌, ◌≤◌}
+use Rattle.base_lists.specs.Kit.{◌∙◌, sym, ap, ap₂, false, true, List, ℕ, T, ltb, length, arith}
 use Rattle.base_lists.specs.List.{all_below, all}
 use Rattle.base_lists.proofs.Entries.{all-below, below_all}
 use Rattle.graph.specs.Chosen.{picked, chosen}

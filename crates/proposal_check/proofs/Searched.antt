@@ -1,5 +1,6 @@
 -- The nodes that the search reaches are the ball; and tables that are cut from longer ones. Assumes nothing.
-use Rattle.base_lists.specs.Kit.{◌≡◌, ◌∙◌, sym, ap, ap₂, Bool, List, ◌++◌, ℕ, ◌≤◌, ◌<◌, length, take, length-append, length-take-le, take_at, arith}
+use Rattle.std.specs.Prelude.{◌≡◌, ◌++◌, ◌≤◌, ◌<◌}
+use Rattle.base_lists.specs.Kit.{◌∙◌, sym, ap, ap₂, Bool, List, ℕ, length, take, length-append, length-take-le, take_at, arith}
 use Rattle.base_lists.specs.List.{all_below}
 use Rattle.graph.specs.Bfs.{bfs, adjacent, Found}
 use Rattle.graph.specs.Net.{NetOf}

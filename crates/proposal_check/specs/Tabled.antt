@@ -1,5 +1,6 @@
 -- Testing a board against its own place, from kinds, links and tables: whose masks these are need not be handed on.
-use Rattle.base_lists.specs.Kit.{◌≡◌, Bool, true, List, ℕ, length}
+use Rattle.std.specs.Prelude.{◌≡◌}
+use Rattle.base_lists.specs.Kit.{Bool, true, List, ℕ, length}
 use Rattle.graph.specs.Circuit.{Circuit, circuit}
 use Rattle.table.specs.Prepared.{Tables}
 use Rattle.place.specs.Find.{Tabled, Located}

@@ -1,5 +1,6 @@
 -- The bytes mark a subgraph with the centre: what the tests come to, one after another. Assumes nothing.
-use Rattle.base_lists.specs.Kit.{◌≡◌, false, true, List, ℕ, get_or, eq-eqb, ne_eqb}
+use Rattle.std.specs.Prelude.{◌≡◌}
+use Rattle.base_lists.specs.Kit.{false, true, List, ℕ, get_or, eq-eqb, ne_eqb}
 use Rattle.graph.specs.Circuit.{Circuit}
 use Rattle.graph.specs.Search.{inside}
 use Rattle.proposal.specs.Check.{bits, ends_marked, marks_subgraph}

@@ -1,5 +1,6 @@
 -- The tests of the bytes, as the loops make them: what was seen at every index, or at one. Assumes nothing.
-use Rattle.base_lists.specs.Kit.{◌≡◌, ◌∙◌, sym, ap, refl, Bool, false, true, cond, ◌&&◌, not, ◌||◌, List, ℕ, ◌≤◌, ◌<◌, T, eqb, length, get_or, arith, eq-eqb, ne_eqb, eqb-true}
+use Rattle.std.specs.Prelude.{◌≡◌, ◌&&◌, ◌||◌, ◌≤◌, ◌<◌}
+use Rattle.base_lists.specs.Kit.{◌∙◌, sym, ap, refl, Bool, false, true, cond, not, List, ℕ, T, eqb, length, get_or, arith, eq-eqb, ne_eqb, eqb-true}
 use Rattle.base_lists.specs.List.{all_below}
 use Rattle.base_lists.proofs.Below.{all_below-same}
 use Rattle.base_lists.proofs.Tables.{get_d_tabulate}

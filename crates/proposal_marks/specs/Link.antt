@@ -1,5 +1,6 @@
 -- One link of a place, as it is tested.
-use Rattle.base_lists.specs.Kit.{Bool, ◌&&◌, List, ℕ, get_or}
+use Rattle.std.specs.Prelude.{◌&&◌}
+use Rattle.base_lists.specs.Kit.{Bool, List, ℕ, get_or}
 use Rattle.base_bits.specs.Bits.{intersects}
 use Rattle.graph.specs.Search.{reached}
 use Rattle.place.specs.Bytes.{driven_by}

@@ -1,6 +1,7 @@
 -- The line that the program puts for a centre with a place is the centre's line of the report, and where there is none the report has no line.
 -- Assumes nothing.
-use Rattle.base_lists.specs.Kit.{◌≡◌, ◌∙◌, sym, ap, refl, subst, ap₂, Bool, false, true, cond, not, List, [], ◌++◌, ℕ, ◌<◌, zero-lt-suc, eqb, length, get_or}
+use Rattle.std.specs.Prelude.{◌≡◌, ◌++◌, ◌<◌}
+use Rattle.base_lists.specs.Kit.{◌∙◌, sym, ap, refl, subst, ap₂, Bool, false, true, cond, not, List, [], ℕ, zero-lt-suc, eqb, length, get_or}
 use Rattle.base_lists.specs.Below.{concat_below}
 use Rattle.base_lists.specs.List.{tabulate, Below}
 use Rattle.base_lists.proofs.Tables.{length-tabulate, get_d_tabulate}

@@ -1,6 +1,7 @@
 -- Document 01's example of a report, T on B, from the bytes of the two files; and the two lines of refused files that it implies. Assumes
 -- nothing.
-use Rattle.base_lists.specs.Kit.{◌≡◌, ◌∙◌, ap, refl, ap₂, Bool, false, true, List, [], ◌∷◌, ◌++◌, ℕ, T}
+use Rattle.std.specs.Prelude.{◌≡◌, ◌∷◌, ◌++◌}
+use Rattle.base_lists.specs.Kit.{◌∙◌, ap, refl, ap₂, Bool, false, true, List, [], ℕ, T}
 use Rattle.base_lists.specs.List.{all, all_below, any_below, tabulate, maximum}
 use Rattle.base_lists.specs.Below.{count_below, concat_below, keep_from}
 use Rattle.base_lists.proofs.Tests.{T_true, T_false}

@@ -1,5 +1,6 @@
 -- How long the lines get: a centre's line of an accepted board has at most 34,829 bytes, the last line 17, a refusal 20. Assumes nothing.
-use Rattle.base_lists.specs.Kit.{Bool, false, true, cond, List, [], ◌++◌, ℕ, ◌≤◌, ◌<◌, ◌+◌, ◌*◌, le_trans, mul-le-mul_right, length, get_or, length-append, arith}
+use Rattle.std.specs.Prelude.{◌++◌, ◌≤◌, ◌<◌, ◌+◌, ◌*◌}
+use Rattle.base_lists.specs.Kit.{Bool, false, true, cond, List, [], ℕ, le_trans, mul-le-mul_right, length, get_or, length-append, arith}
 use Rattle.base_lists.proofs.Concat.{concat_below-bound}
 use Rattle.base_lists.proofs.Entries.{all-below-at}
 use Rattle.base_text.specs.Text.{bytes, decimal, Fits}

@@ -1,6 +1,7 @@
 -- The file's order of links is node by node: where starts do not fall, the texts of all links one after another are those of the links that
 -- start at node 0, then at node 1, and so on. Assumes nothing.
-use Rattle.base_lists.specs.Kit.{◌≡◌, ◌∙◌, sym, ap, refl, cond, List, [], ◌∷◌, ◌++◌, ℕ, ◌≤◌, ◌<◌, suc, zero, suc-le-suc, not-suc-le-zero, zero-lt-suc, suc_inj, suc-ne-zero, eqb, length, get_or, arith, eq-eqb, ne_eqb}
+use Rattle.std.specs.Prelude.{◌≡◌, ◌∷◌, ◌++◌, ◌≤◌, ◌<◌}
+use Rattle.base_lists.specs.Kit.{◌∙◌, sym, ap, refl, cond, List, [], ℕ, suc, zero, suc-le-suc, not-suc-le-zero, zero-lt-suc, suc_inj, suc-ne-zero, eqb, length, get_or, arith, eq-eqb, ne_eqb}
 use Rattle.base_lists.specs.Below.{concat_below}
 use Rattle.base_lists.specs.List.{Below}
 use Rattle.base_lists.proofs.Concat.{concat_below-none, concat_below-first, concat_below-insert}

@@ -1,5 +1,6 @@
 -- The lines and their items piece by piece, as the program puts them, and the room that is left after a piece. Assumes nothing.
-use Rattle.base_lists.specs.Kit.{◌≡◌, false, true, List, [], ◌++◌, append_assoc, ℕ, ◌≤◌, ◌<◌, ◌+◌, suc, ◌^◌, length, get_or, length-append, arith}
+use Rattle.std.specs.Prelude.{◌≡◌, ◌++◌, ◌≤◌, ◌<◌, ◌+◌, ◌^◌}
+use Rattle.base_lists.specs.Kit.{false, true, List, [], append_assoc, ℕ, suc, length, get_or, length-append, arith}
 use Rattle.base_bits.specs.Bits.{union_over}
 use Rattle.base_text.specs.Text.{bytes, decimal, Put, Fits}
 use Rattle.base_text.proofs.Text.{put-length, length-decimal}

@@ -1,5 +1,6 @@
 -- The report's text, from the bytes of the two files. The quoted sentences are document 01's.
-use Rattle.base_lists.specs.Kit.{Bool, cond, List, [], ◌++◌, ℕ, length, get_or}
+use Rattle.std.specs.Prelude.{◌++◌}
+use Rattle.base_lists.specs.Kit.{Bool, cond, List, [], ℕ, length, get_or}
 use Rattle.base_lists.specs.Below.{count_below, concat_below}
 use Rattle.base_text.specs.Text.{bytes, decimal}
 use Rattle.graph.specs.Circuit.{Circuit}

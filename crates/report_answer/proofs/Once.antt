@@ -1,5 +1,6 @@
 -- A buffer that has room for the longest line 513 times takes every report in one piece. Assumes nothing.
-use Rattle.base_lists.specs.Kit.{◌≡◌, ◌∙◌, sym, ap, refl, not, List, ◌++◌, ℕ, ◌≤◌, ◌+◌, ◌-◌, suc, zero, ◌*◌, zero-le, le_refl, zero-add, length, length-append, arith, eq-eqb, le-leb}
+use Rattle.std.specs.Prelude.{◌≡◌, ◌++◌, ◌≤◌, ◌+◌, ◌-◌, ◌*◌}
+use Rattle.base_lists.specs.Kit.{◌∙◌, sym, ap, refl, not, List, ℕ, suc, zero, zero-le, le_refl, zero-add, length, length-append, arith, eq-eqb, le-leb}
 use Rattle.base_lists.specs.Below.{concat_below}
 use Rattle.base_lists.proofs.Below.{least_below-all}
 use Rattle.graph.specs.Circuit.{Circuit}

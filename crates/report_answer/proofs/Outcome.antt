@@ -1,5 +1,6 @@
 -- What the call on two files comes to, by cases: a piece that is put, a buffer that is too short; a refused file, or the lines. Assumes nothing.
-use Rattle.base_lists.specs.Kit.{◌≡◌, List, ℕ, ◌≤◌, ◌<◌, zero-add, length, le-ltb, lt-ltb}
+use Rattle.std.specs.Prelude.{◌≡◌, ◌≤◌, ◌<◌}
+use Rattle.base_lists.specs.Kit.{List, ℕ, zero-add, length, le-ltb, lt-ltb}
 use Rattle.base_text.proofs.Text.{put_whole}
 use Rattle.file_format.specs.declared.File.TheVariants.{Neither}
 use Rattle.file_format.specs.declared.Refusal.{Refusal}

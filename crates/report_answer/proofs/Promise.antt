@@ -1,6 +1,7 @@
 -- What the report call's promise means: calls one after another, each with a buffer of any length that holds the longest line, put the report,
 -- whole and once, and then nothing; only a shorter buffer is refused. Assumes nothing.
-use Rattle.base_lists.specs.Kit.{◌≡◌, ◌∙◌, sym, ap, refl, ap₂, ◌↔◌, List, [], ◌∷◌, ◌++◌, ℕ, ◌≤◌, ◌<◌, suc, zero, zero-le, le_refl, le_of_suc-le-suc, le_trans, le_antisymm, lt_of_not-le, lit≤, length, take, drop, length-append, take_at, drop_at, arith, le-ltb}
+use Rattle.std.specs.Prelude.{◌≡◌, ◌↔◌, ◌∷◌, ◌++◌, ◌≤◌, ◌<◌}
+use Rattle.base_lists.specs.Kit.{◌∙◌, sym, ap, refl, ap₂, List, [], ℕ, suc, zero, zero-le, le_refl, le_of_suc-le-suc, le_trans, le_antisymm, lt_of_not-le, lit≤, length, take, drop, length-append, take_at, drop_at, arith, le-ltb}
 use Rattle.file_format.specs.declared.File.TheVariants.{Neither}
 use Rattle.file_format.specs.declared.Refusal.{Refusal}
 use Rattle.file_format.specs.declared.Role.TheVariants.{Pattern, Board}

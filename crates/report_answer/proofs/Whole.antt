@@ -1,6 +1,7 @@
 -- A piece puts the items of the report from where it starts up to where it says to go on, and puts nothing exactly past the last item. Assumes
 -- nothing.
-use Rattle.base_lists.specs.Kit.{◌≡◌, ◌∙◌, sym, ap, refl, ap₂, ◌↔◌, ◌⊎◌, inl, inr, Bool, false, true, cond, ◌&&◌, not, List, [], ◌++◌, append-nil, append_assoc, ℕ, ◌≤◌, ◌<◌, ◌+◌, ◌-◌, suc, zero, zero-le, le_refl, zero-lt-suc, le_trans, eq-or-lt_of_le, add-zero, lt_of_not-le, eqb, eqb→eq, leb, length, length-append, arith, eqb-true, not-true, eqb-false, le-leb, lt-leb, leb-true, leb-false}
+use Rattle.std.specs.Prelude.{◌≡◌, ◌↔◌, ◌⊎◌, ◌&&◌, ◌++◌, ◌≤◌, ◌<◌, ◌+◌, ◌-◌}
+use Rattle.base_lists.specs.Kit.{◌∙◌, sym, ap, refl, ap₂, inl, inr, Bool, false, true, cond, not, List, [], append-nil, append_assoc, ℕ, suc, zero, zero-le, le_refl, zero-lt-suc, le_trans, eq-or-lt_of_le, add-zero, lt_of_not-le, eqb, eqb→eq, leb, length, length-append, arith, eqb-true, not-true, eqb-false, le-leb, lt-leb, leb-true, leb-false}
 use native.Mathlib.Decide.{dec_lt}
 use Rattle.base_lists.specs.Below.{count_below, concat_below}
 use Rattle.base_lists.proofs.Below.{count_below-le, least_below-le, least_below-at, count_below-add}

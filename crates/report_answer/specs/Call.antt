@@ -1,7 +1,8 @@
 -- The report call, whole: its reply and the buffer's later content, from the inputs alone. A report may be far longer than a buffer, so it is
 -- put piece by piece: a call puts the lines of the centres from a centre on, as long as there is room for the longest line, and answers
 -- where to go on. proofs/Promise shows that the pieces, one after another, are the report.
-use Rattle.base_lists.specs.Kit.{List, [], ◌∷◌, ℕ, length}
+use Rattle.std.specs.Prelude.{◌∷◌}
+use Rattle.base_lists.specs.Kit.{List, [], ℕ, length}
 use Rattle.graph.specs.Circuit.{Circuit}
 use Rattle.file_format.specs.declared.Role.TheVariants.{Pattern}
 use Rattle.file_format.specs.declared.FileVerdict.{FileVerdict}

@@ -1,6 +1,7 @@
 -- The report by calls one after another: its items, of which each call puts some, and what calls with buffers of any length long enough come
 -- to.
-use Rattle.base_lists.specs.Kit.{◌≡◌, cond, List, [], ◌++◌, ℕ, ◌≤◌, ◌<◌, suc, zero, eqb, leb, length, get_or, take}
+use Rattle.std.specs.Prelude.{◌≡◌, ◌++◌, ◌≤◌, ◌<◌}
+use Rattle.base_lists.specs.Kit.{cond, List, [], ℕ, suc, zero, eqb, leb, length, get_or, take}
 use Rattle.base_lists.specs.Below.{count_below, concat_below}
 use Rattle.graph.specs.Circuit.{Circuit}
 use Rattle.file_format.specs.Circuit.{circuit_of}

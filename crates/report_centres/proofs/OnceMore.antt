@@ -1,6 +1,7 @@
 -- The text of a component, once more: what follows the colon is the same for each centre whose ball holds the component; what a line puts is found in the
 -- buffer again, and stays there where later lines are put; and the table of where such texts stand, with one text more. Assumes nothing.
-use Rattle.base_lists.specs.Kit.{◌≡◌, ◌∙◌, sym, ap, refl, subst, ap₂, Bool, false, true, cond, not, List, ◌++◌, ℕ, ◌≤◌, ◌<◌, ◌+◌, ◌-◌, le_refl, T, eqb, ltb, length, get_or, set, length-set, length-append, replicate, length-replicate, get_or-replicate, get_or-set_other, get_or-set_same, arith, ne_eqb, eqb-true, eqb-false}
+use Rattle.std.specs.Prelude.{◌≡◌, ◌++◌, ◌≤◌, ◌<◌, ◌+◌, ◌-◌}
+use Rattle.base_lists.specs.Kit.{◌∙◌, sym, ap, refl, subst, ap₂, Bool, false, true, cond, not, List, ℕ, le_refl, T, eqb, ltb, length, get_or, set, length-set, length-append, replicate, length-replicate, get_or-replicate, get_or-set_other, get_or-set_same, arith, ne_eqb, eqb-true, eqb-false}
 use Rattle.base_lists.specs.List.{part}
 use Rattle.base_lists.proofs.Tests.{same_test, true-T}
 use Rattle.base_text.specs.Text.{Put}

@@ -1,6 +1,7 @@
 -- The line of one centre: none where the whole board's table leaves the centre empty, else from the place that was
 -- found. Assumes nothing.
-use Rattle.base_lists.specs.Kit.{◌≡◌, ◌∙◌, sym, ap, refl, Bool, false, true, List, [], ℕ, ◌≤◌, length, get_or}
+use Rattle.std.specs.Prelude.{◌≡◌, ◌≤◌}
+use Rattle.base_lists.specs.Kit.{◌∙◌, sym, ap, refl, Bool, false, true, List, [], ℕ, length, get_or}
 use Rattle.base_lists.proofs.Tests.{T_false, false-T}
 use Rattle.base_bits.specs.Bits.{bit}
 use Rattle.base_bits.proofs.Digits.{bit-of-zero, no_bits}

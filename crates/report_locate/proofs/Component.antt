@@ -1,7 +1,8 @@
 -- The centre's component in the whole board's match graph. Where walks of r matching links lead to all of it, or the board's links
 -- to as many nodes with its number as it has, the ball holds it, and the place is the component with its matching links; else the place comes from those nodes
 -- of the ball that have its number. Assumes nothing.
-use Rattle.base_lists.specs.Kit.{◌≡◌, ◌∙◌, sym, ap, refl, subst, ⊎_elim, inl, inr, Bool, true, List, ◌++◌, ℕ, ◌≤◌, ◌<◌, suc, le_antisymm, T, eqb, eqb→eq, length, get_or, take-length, arith, eq-eqb}
+use Rattle.std.specs.Prelude.{◌≡◌, ◌++◌, ◌≤◌, ◌<◌}
+use Rattle.base_lists.specs.Kit.{◌∙◌, sym, ap, refl, subst, ⊎_elim, inl, inr, Bool, true, List, ℕ, suc, le_antisymm, T, eqb, eqb→eq, length, get_or, take-length, arith, eq-eqb}
 use Rattle.base_lists.specs.List.{Occurs, Below}
 use Rattle.base_lists.proofs.Tests.{true-T, any_at, at-any}
 use Rattle.graph.specs.Bfs.{SearchState, bfs, adjacent, Found as Searched}

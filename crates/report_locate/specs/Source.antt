@@ -1,5 +1,6 @@
 -- What the line of a centre is put from, what is known of the centre's ball and place, and that the line is put.
-use Rattle.base_lists.specs.Kit.{◌≡◌, Bool, false, true, List, ℕ, ◌≤◌, ◌<◌, T, length, get_or, take}
+use Rattle.std.specs.Prelude.{◌≡◌, ◌≤◌, ◌<◌}
+use Rattle.base_lists.specs.Kit.{Bool, false, true, List, ℕ, T, length, get_or, take}
 use Rattle.base_text.specs.Text.{Put}
 use Rattle.graph.specs.Circuit.{Circuit}
 use Rattle.graph.specs.Search.{inside}

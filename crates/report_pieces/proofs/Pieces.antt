@@ -1,5 +1,6 @@
 -- The last line after the lines of the centres, and nothing after that. Assumes nothing.
-use Rattle.base_lists.specs.Kit.{◌≡◌, ◌∙◌, refl, Bool, false, true, cond, List, [], ◌++◌, append-nil, ℕ, ◌≤◌, ◌<◌, ◌+◌, ◌-◌, suc, zero-add, add-one, eqb, leb, le→leb, leb→le, length, length-append, arith, eq-eqb, ne_eqb, le-ltb, leb-true, and-false}
+use Rattle.std.specs.Prelude.{◌≡◌, ◌++◌, ◌≤◌, ◌<◌, ◌+◌, ◌-◌}
+use Rattle.base_lists.specs.Kit.{◌∙◌, refl, Bool, false, true, cond, List, [], append-nil, ℕ, suc, zero-add, add-one, eqb, leb, le→leb, leb→le, length, length-append, arith, eq-eqb, ne_eqb, le-ltb, leb-true, and-false}
 use Rattle.base_lists.proofs.Tests.{both_right, true-T, same_test}
 use Rattle.base_text.specs.Text.{Put}
 use Rattle.base_text.proofs.Text.{put-nothing, put_then, put_same, put-length}

@@ -1,6 +1,7 @@
 -- Where the loop over the centres stands, from its start to its end: the lines of the centres before c are put, each of which had room, and
 -- those with a place are counted. Assumes nothing.
-use Rattle.base_lists.specs.Kit.{◌≡◌, ◌∙◌, sym, ap, refl, ◌⊎◌, inl, inr, Bool, false, true, cond, ◌&&◌, not, List, [], ◌++◌, ℕ, ◌≤◌, ◌<◌, ◌+◌, ◌-◌, suc, zero-le, le_refl, le_of_suc-le-suc, eq-or-lt_of_le, add-sub_of_le, sub_self, T, eqb, ltb, ltb→lt, length, arith, eq-eqb, ne_eqb, ltb-false, ltb-true, leb-true}
+use Rattle.std.specs.Prelude.{◌≡◌, ◌⊎◌, ◌&&◌, ◌++◌, ◌≤◌, ◌<◌, ◌+◌, ◌-◌}
+use Rattle.base_lists.specs.Kit.{◌∙◌, sym, ap, refl, inl, inr, Bool, false, true, cond, not, List, [], ℕ, suc, zero-le, le_refl, le_of_suc-le-suc, eq-or-lt_of_le, add-sub_of_le, sub_self, T, eqb, ltb, ltb→lt, length, arith, eq-eqb, ne_eqb, ltb-false, ltb-true, leb-true}
 use Rattle.base_lists.specs.Below.{count_below, least_below, concat_below}
 use Rattle.base_lists.proofs.Below.{count_below-suc, count_below-le, least_below-le, least_below-is, least_below-all}
 use Rattle.base_lists.proofs.Tests.{both_left, both_right, true-T, T_true}

@@ -1,5 +1,6 @@
 -- The one line of a refused file, and nothing after it. Assumes nothing.
-use Rattle.base_lists.specs.Kit.{◌≡◌, refl, List, ℕ, ◌≤◌, ◌<◌, length, arith, eq-eqb, ne_eqb}
+use Rattle.std.specs.Prelude.{◌≡◌, ◌≤◌, ◌<◌}
+use Rattle.base_lists.specs.Kit.{refl, List, ℕ, length, arith, eq-eqb, ne_eqb}
 use Rattle.base_text.specs.Text.{Put, Fits}
 use Rattle.base_text.proofs.Text.{put-nothing}
 use Rattle.file_format.specs.declared.Refusal.{Refusal}

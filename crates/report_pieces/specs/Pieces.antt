@@ -1,6 +1,7 @@
 -- Pieces of a report: the lines of the centres from one on, as long as there is room for the longest line, and the last line; the line of a refused file; and
 -- what putting a piece leaves.
-use Rattle.base_lists.specs.Kit.{◌≡◌, Bool, cond, ◌&&◌, not, List, [], ◌++◌, ℕ, ◌+◌, ◌-◌, suc, eqb, leb, length}
+use Rattle.std.specs.Prelude.{◌≡◌, ◌&&◌, ◌++◌, ◌+◌, ◌-◌}
+use Rattle.base_lists.specs.Kit.{Bool, cond, not, List, [], ℕ, suc, eqb, leb, length}
 use Rattle.base_lists.specs.Below.{count_below, least_below, concat_below}
 use Rattle.base_text.specs.Text.{Put, Fits}
 use Rattle.graph.specs.Circuit.{Circuit}

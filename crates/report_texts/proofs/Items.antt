@@ -1,5 +1,6 @@
 -- The items of a line, as the program puts them. Assumes nothing.
-use Rattle.base_lists.specs.Kit.{◌≡◌, false, true, List, [], ◌∷◌, ◌++◌, append_assoc, ℕ, ◌≤◌, ◌<◌, ◌+◌, suc, length, get_or, length-append, arith}
+use Rattle.std.specs.Prelude.{◌≡◌, ◌∷◌, ◌++◌, ◌≤◌, ◌<◌, ◌+◌}
+use Rattle.base_lists.specs.Kit.{false, true, List, [], append_assoc, ℕ, suc, length, get_or, length-append, arith}
 use Rattle.base_lists.specs.Below.{concat_below}
 use Rattle.base_lists.proofs.Concat.{concat_below-le}
 use Rattle.base_bits.specs.Bits.{intersects}

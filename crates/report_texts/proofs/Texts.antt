@@ -1,6 +1,7 @@
 -- Laws of a line's two parts, and of text that stands in a buffer: it stays where later text is put after it, and what was put is found there again. Assumes
 -- nothing.
-use Rattle.base_lists.specs.Kit.{◌≡◌, ◌∙◌, sym, ap, refl, ap₂, List, ◌++◌, ℕ, ◌≤◌, ◌<◌, ◌+◌, ◌-◌, length, get_or, length-append, sets, arith, get_or-append-add}
+use Rattle.std.specs.Prelude.{◌≡◌, ◌++◌, ◌≤◌, ◌<◌, ◌+◌, ◌-◌}
+use Rattle.base_lists.specs.Kit.{◌∙◌, sym, ap, refl, ap₂, List, ℕ, length, get_or, length-append, sets, arith, get_or-append-add}
 use Rattle.base_lists.specs.List.{part}
 use Rattle.base_lists.proofs.Tables.{is-tabulate, tabulate-same, get_d_sets_before, get_d_sets}
 use Rattle.base_lists.proofs.Concat.{concat_below-same}

@@ -1,7 +1,8 @@
 -- The line of a found centre as the program puts it, node by node, from what the search for the component leaves: the entries `dist`, `far`
 -- outside it, the ball's sets, and what matching looks up. What the contracts of the inner functions cite; report/proofs/Centre ties it to
 -- the report's text.
-use Rattle.base_lists.specs.Kit.{cond, List, [], ◌++◌, ℕ, ◌+◌, ltb, length, get_or, set}
+use Rattle.std.specs.Prelude.{◌++◌, ◌+◌}
+use Rattle.base_lists.specs.Kit.{cond, List, [], ℕ, ltb, length, get_or, set}
 use Rattle.base_lists.specs.Below.{concat_below}
 use Rattle.base_bits.specs.Bits.{intersects}
 use Rattle.base_text.specs.Text.{bytes, decimal}

@@ -1,6 +1,7 @@
 -- A cut on the tables that hold a machine: they say whether the link is left, and where it is, striking on from the last table leads to the tables of
 -- the machine without it. Assumes nothing.
-use Rattle.base_lists.specs.Kit.{◌≡◌, ◌∙◌, sym, ap, refl, subst, ap₂, Bool, false, true, cond, ◌&&◌, List, ◌++◌, ℕ, ◌≤◌, ◌<◌, ◌+◌, T, ltb, length, get_or, take, drop, set, length-set, take_at, get_or-take, get_or-drop, arith, le-ltb, lt-ltb, ltb-false, ltb-true}
+use Rattle.std.specs.Prelude.{◌≡◌, ◌&&◌, ◌++◌, ◌≤◌, ◌<◌, ◌+◌}
+use Rattle.base_lists.specs.Kit.{◌∙◌, sym, ap, refl, subst, ap₂, Bool, false, true, cond, List, ℕ, T, ltb, length, get_or, take, drop, set, length-set, take_at, get_or-take, get_or-drop, arith, le-ltb, lt-ltb, ltb-false, ltb-true}
 use Rattle.base_lists.specs.List.{part}
 use Rattle.base_lists.proofs.Tests.{T_true, true-T, false-T}
 use Rattle.base_lists.proofs.Entries.{all-below, all-below-at}

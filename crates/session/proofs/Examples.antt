@@ -1,5 +1,6 @@
 -- Reading out sets that no machine has, by computation. Assumes nothing.
-use Rattle.base_lists.specs.Kit.{◌≡◌, refl, [], ◌∷◌}
+use Rattle.std.specs.Prelude.{◌≡◌, ◌∷◌}
+use Rattle.base_lists.specs.Kit.{refl, []}
 use Rattle.base_lists.specs.Below.{count_below}
 use Rattle.base_bits.specs.Bits.{bit, size_of}
 use Rattle.table.specs.Union.{union_all}

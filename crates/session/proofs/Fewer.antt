@@ -1,5 +1,6 @@
 -- Why a cut may strike on from the last table: with fewer links left the old largest set contains the new one. Assumes nothing.
-use Rattle.base_lists.specs.Kit.{List, ℕ, ◌≤◌, T, length}
+use Rattle.std.specs.Prelude.{◌≤◌}
+use Rattle.base_lists.specs.Kit.{List, ℕ, T, length}
 use Rattle.base_lists.specs.List.{Occurs}
 use Rattle.graph.specs.Chosen.{chosen, ChosenLink}
 use Rattle.graph.specs.Circuit.{Circuit, HasLink}

@@ -1,5 +1,6 @@
 -- Laws of the links that are left: all of a fresh machine's, and what a cut takes out. Assumes nothing.
-use Rattle.base_lists.specs.Kit.{◌≡◌, ◌∙◌, sym, ap, refl, Bool, false, true, cond, ◌&&◌, not, List, ℕ, ◌≤◌, ◌<◌, T, eqb, ltb, length, get_or, set, get_or-eq_default, get_or-set_other, get_or-set_same, set_out, lt-ltb, eqb-true, ltb-false, eqb-false, ltb-true, and-false, and-true}
+use Rattle.std.specs.Prelude.{◌≡◌, ◌&&◌, ◌≤◌, ◌<◌}
+use Rattle.base_lists.specs.Kit.{◌∙◌, sym, ap, refl, Bool, false, true, cond, not, List, ℕ, T, eqb, ltb, length, get_or, set, get_or-eq_default, get_or-set_other, get_or-set_same, set_out, lt-ltb, eqb-true, ltb-false, eqb-false, ltb-true, and-false, and-true}
 use Rattle.base_lists.proofs.Tables.{get_d_tabulate}
 use Rattle.base_lists.proofs.Tests.{both_true, both_left, both_right, T_true, true-T}
 use Rattle.graph.specs.Circuit.{Circuit}

@@ -1,5 +1,6 @@
 -- The links of a machine as the tables hold them: they lead where the links left lead, and taking a link out leaves the others. Assumes nothing.
-use Rattle.base_lists.specs.Kit.{◌≡◌, ◌∙◌, sym, ap, refl, subst, ap₂, ◌↔◌, iff_trans, iff_symm, Bool, false, true, cond, List, [], ◌∷◌, ℕ, ◌≤◌, ◌<◌, ◌+◌, suc, zero, suc-le-suc, not-suc-le-zero, le_of_suc-le-suc, zero-lt-suc, T, eqb, ltb, length, get_or, take, drop, set, get_or-eq_default, get_or-set_other, get_or-set_same, set_out, take-set-le, drop-set-add, drop-set-lt, take-set-lt, arith, eqb-true, ltb-false, eqb-false, ltb-true}
+use Rattle.std.specs.Prelude.{◌≡◌, ◌↔◌, ◌∷◌, ◌≤◌, ◌<◌, ◌+◌}
+use Rattle.base_lists.specs.Kit.{◌∙◌, sym, ap, refl, subst, ap₂, iff_trans, iff_symm, Bool, false, true, cond, List, [], ℕ, suc, zero, suc-le-suc, not-suc-le-zero, le_of_suc-le-suc, zero-lt-suc, T, eqb, ltb, length, get_or, take, drop, set, get_or-eq_default, get_or-set_other, get_or-set_same, set_out, take-set-le, drop-set-add, drop-set-lt, take-set-lt, arith, eqb-true, ltb-false, eqb-false, ltb-true}
 use Rattle.base_lists.specs.List.{part, Occurs}
 use Rattle.base_lists.proofs.Tables.{length-tabulate, get_d_tabulate}
 use Rattle.base_lists.proofs.Tests.{T_true, true-T}

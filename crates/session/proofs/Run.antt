@@ -1,6 +1,7 @@
 -- For every list of cuts: each reply is the machine's, and afterwards the tables hold the machine after the list. Its table is the largest dual simulation in the
 -- nodes with the links left. Assumes nothing.
-use Rattle.base_lists.specs.Kit.{◌≡◌, ◌∙◌, sym, ap, refl, subst, ap₂, Bool, false, true, cond, ◌&&◌, not, ◌||◌, and-true, List, [], ◌∷◌, ℕ, T, eqb, eqb→eq, length, eq-eqb, eqb-true}
+use Rattle.std.specs.Prelude.{◌≡◌, ◌&&◌, ◌||◌, ◌∷◌}
+use Rattle.base_lists.specs.Kit.{◌∙◌, sym, ap, refl, subst, ap₂, Bool, false, true, cond, not, and-true, List, [], ℕ, T, eqb, eqb→eq, length, eq-eqb, eqb-true}
 use Rattle.base_lists.specs.List.{any}
 use Rattle.base_lists.proofs.Tests.{T_true, true-T, same_test}
 use Rattle.graph.specs.Chosen.{chosen}

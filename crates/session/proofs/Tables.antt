@@ -1,5 +1,6 @@
 -- What a cut and reading out come to where the tables hold a machine: the machine's reply, the tables of the machine after it, and its table. Assumes nothing.
-use Rattle.base_lists.specs.Kit.{◌≡◌, ◌∙◌, sym, ap, refl, ap₂, Bool, false, true, cond, List, [], ◌∷◌, ◌++◌, ℕ, ◌≤◌, ◌<◌, leb, length, take, drop, arith, le-leb, lt-leb, leb-true}
+use Rattle.std.specs.Prelude.{◌≡◌, ◌∷◌, ◌++◌, ◌≤◌, ◌<◌}
+use Rattle.base_lists.specs.Kit.{◌∙◌, sym, ap, refl, ap₂, Bool, false, true, cond, List, [], ℕ, leb, length, take, drop, arith, le-leb, lt-leb, leb-true}
 use Rattle.base_lists.proofs.Tests.{true-T}
 use Rattle.base_lists.proofs.Tables.{replicate-tabulate}
 use Rattle.file_format.specs.Reading.{filled}

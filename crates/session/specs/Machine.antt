@@ -1,6 +1,7 @@
 -- The plain machine that defines a session (document 02, cutting tracks while searching): "its state is the pattern, the nodes and the set of board
 -- links left." The nodes and the links of the file are those of a board, and the set has a byte for each link of the file, 1 for one that is left.
-use Rattle.base_lists.specs.Kit.{Bool, cond, ◌&&◌, List, [], ◌∷◌, ℕ, ltb, length, set}
+use Rattle.std.specs.Prelude.{◌&&◌, ◌∷◌}
+use Rattle.base_lists.specs.Kit.{Bool, cond, List, [], ℕ, ltb, length, set}
 use Rattle.base_lists.specs.List.{tabulate}
 use Rattle.graph.specs.Chosen.{chosen}
 use Rattle.graph.specs.Circuit.{Circuit}

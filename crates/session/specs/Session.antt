@@ -1,5 +1,6 @@
 -- What the calls of a session come to on tables that hold a machine, from what they make of any (Tables); and a list of cuts, one call after another.
-use Rattle.base_lists.specs.Kit.{◌≡◌, cond, List, [], ◌∷◌, ◌++◌, ℕ, length, drop}
+use Rattle.std.specs.Prelude.{◌≡◌, ◌∷◌, ◌++◌}
+use Rattle.base_lists.specs.Kit.{cond, List, [], ℕ, length, drop}
 use Rattle.file_format.specs.Reading.{filled}
 use Rattle.file_format.specs.Refusals.{Verdict, refuse, first, short_table}
 use Rattle.file_format.specs.Reply.{Reply, reply}

@@ -1,5 +1,6 @@
 -- The tables that a session lives in, and which machine they hold. The caller lends them to each call; what they hold is the session's own affair.
-use Rattle.base_lists.specs.Kit.{◌≡◌, Bool, cond, ◌&&◌, List, ℕ, ◌<◌, ◌+◌, ltb, length, get_or, take, set}
+use Rattle.std.specs.Prelude.{◌≡◌, ◌&&◌, ◌<◌, ◌+◌}
+use Rattle.base_lists.specs.Kit.{Bool, cond, List, ℕ, ltb, length, get_or, take, set}
 use Rattle.file_format.specs.Circuit.{Bounded}
 use Rattle.file_format.specs.declared.Role.TheVariants as role
 use Rattle.graph.specs.Neighbours.{select}

@@ -1,7 +1,8 @@
 -- What a cut and reading out come to on tables of any content, by equations on what they hold: a cut takes the link out and strikes on node by node
 -- (session_strike/specs/Moves: `settled`), and reading out copies the sets and applies the all-0 rule. What this is where the tables hold a machine is
 -- proved (proofs/Tables).
-use Rattle.base_lists.specs.Kit.{◌≡◌, Bool, cond, List, [], ◌∷◌, ◌++◌, ℕ, ◌+◌, eqb, leb, length, get_or, take, drop, replicate}
+use Rattle.std.specs.Prelude.{◌≡◌, ◌∷◌, ◌++◌, ◌+◌}
+use Rattle.base_lists.specs.Kit.{Bool, cond, List, [], ℕ, eqb, leb, length, get_or, take, drop, replicate}
 use Rattle.base_bits.specs.Bits.{size_of}
 use Rattle.file_format.specs.Reading.{filled}
 use Rattle.file_format.specs.Refusals.{Verdict, first, link_gone, short_table}

@@ -1,5 +1,6 @@
 -- What taking a link out and striking on come to, for tables of any content. Assumes nothing.
-use Rattle.base_lists.specs.Kit.{◌≡◌, ◌∙◌, sym, ap, refl, Bool, false, true, cond, List, ◌++◌, ℕ, ◌≤◌, ◌<◌, ◌+◌, get_or, take, drop, arith, le-ltb, lt-ltb}
+use Rattle.std.specs.Prelude.{◌≡◌, ◌++◌, ◌≤◌, ◌<◌, ◌+◌}
+use Rattle.base_lists.specs.Kit.{◌∙◌, sym, ap, refl, Bool, false, true, cond, List, ℕ, get_or, take, drop, arith, le-ltb, lt-ltb}
 use Rattle.file_format.specs.Refusals.{first, link_gone}
 use Rattle.file_format.specs.declared.File.TheVariants.{Neither}
 use Rattle.graph.specs.Search.{far}

@@ -1,5 +1,6 @@
 -- What reading the table out comes to, for tables of any content. Assumes nothing.
-use Rattle.base_lists.specs.Kit.{◌≡◌, ◌∙◌, ap, refl, Bool, false, true, cond, List, ◌++◌, ℕ, ◌≤◌, ◌<◌, eqb, length, take, drop, replicate, length-replicate, length-take-le, take_at, drop_at, le-ltb, lt-ltb}
+use Rattle.std.specs.Prelude.{◌≡◌, ◌++◌, ◌≤◌, ◌<◌}
+use Rattle.base_lists.specs.Kit.{◌∙◌, ap, refl, Bool, false, true, cond, List, ℕ, eqb, length, take, drop, replicate, length-replicate, length-take-le, take_at, drop_at, le-ltb, lt-ltb}
 use Rattle.base_bits.specs.Bits.{size_of}
 use Rattle.file_format.specs.Reading.{filled}
 use Rattle.file_format.specs.Refusals.{first, short_table}

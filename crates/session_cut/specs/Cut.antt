@@ -1,5 +1,6 @@
 -- Each case of a cut's answer and of reading out, in the words of the conditions; and what a place names, by the tables.
-use Rattle.base_lists.specs.Kit.{◌≡◌, cond, List, [], ◌∷◌, ℕ, ◌+◌, get_or}
+use Rattle.std.specs.Prelude.{◌≡◌, ◌∷◌, ◌+◌}
+use Rattle.base_lists.specs.Kit.{cond, List, [], ℕ, get_or}
 use Rattle.file_format.specs.Refusals.{Verdict, accept, refuse}
 use Rattle.file_format.specs.Reply.{Reply}
 use Rattle.graph.specs.Search.{far}

@@ -1,5 +1,6 @@
 -- What filling the tables of a session leaves. Assumes nothing.
-use Rattle.base_lists.specs.Kit.{◌≡◌, ◌∙◌, sym, ap, ap₂, List, [], ◌∷◌, ◌++◌, append-nil, append_assoc, ℕ, ◌≤◌, ◌+◌, suc, T, ltb, length, take, drop, set, length-set, length-append, length-drop, drop_of_length-le, length-replicate, length-take, take-append-drop, take_at, get_or-set_other, take_all, drop_at, get_or-set_same, take-set-le, set_at, arith}
+use Rattle.std.specs.Prelude.{◌≡◌, ◌∷◌, ◌++◌, ◌≤◌, ◌+◌}
+use Rattle.base_lists.specs.Kit.{◌∙◌, sym, ap, ap₂, List, [], append-nil, append_assoc, ℕ, suc, T, ltb, length, take, drop, set, length-set, length-append, length-drop, drop_of_length-le, length-replicate, length-take, take-append-drop, take_at, get_or-set_other, take_all, drop_at, get_or-set_same, take-set-le, set_at, arith}
 use Rattle.base_lists.specs.List.{all, part}
 use Rattle.base_lists.proofs.Parts.{halved, part-first, part-second, length-halved}
 use Rattle.base_lists.proofs.Tables.{length-tabulate}

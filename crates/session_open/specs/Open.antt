@@ -1,5 +1,6 @@
 -- What a session's tables hold at first, one after another.
-use Rattle.base_lists.specs.Kit.{◌≡◌, List, [], ◌∷◌, ◌++◌, ℕ, ◌<◌, length, get_or, take, drop, replicate}
+use Rattle.std.specs.Prelude.{◌≡◌, ◌∷◌, ◌++◌, ◌<◌}
+use Rattle.base_lists.specs.Kit.{List, [], ℕ, length, get_or, take, drop, replicate}
 use Rattle.graph.specs.Neighbours.{select, offsets_of, grouped_values}
 use Rattle.graph.specs.Net.{NetRoom, forward_targets, backward_targets, driven, driving}
 use Rattle.graph.specs.Search.{far}

@@ -1,5 +1,6 @@
 -- Laws of entries read with a default, of unions over them and of lists of nodes that are marked. Assumes nothing.
-use Rattle.base_lists.specs.Kit.{◌≡◌, ◌∙◌, sym, ap, refl, List, [], ◌∷◌, ℕ, ◌≤◌, ◌<◌, ◌+◌, add-one, length, get_or, drop, drop_of_length-le, drop-cons}
+use Rattle.std.specs.Prelude.{◌≡◌, ◌∷◌, ◌≤◌, ◌<◌, ◌+◌}
+use Rattle.base_lists.specs.Kit.{◌∙◌, sym, ap, refl, List, [], ℕ, add-one, length, get_or, drop, drop_of_length-le, drop-cons}
 use lib.Bits.{bit_or, or_zero_r}
 use Rattle.base_bits.specs.Bits.{union_at}
 use Rattle.base_bits.proofs.Tests.{bit_or-assoc}

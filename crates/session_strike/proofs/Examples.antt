@@ -1,5 +1,6 @@
 -- Going on from a table, by computation: on the links of a board, and on tables that hold no board's links, where a node may keep a part that it ought to lose. Assumes nothing.
-use Rattle.base_lists.specs.Kit.{◌≡◌, refl, cond, List, [], ◌∷◌, ℕ, eqb, replicate}
+use Rattle.std.specs.Prelude.{◌≡◌, ◌∷◌}
+use Rattle.base_lists.specs.Kit.{refl, cond, List, [], ℕ, eqb, replicate}
 use Rattle.base_lists.specs.List.{all_below, part, sum}
 use Rattle.base_lists.specs.Below.{count_below, least_below}
 use Rattle.base_bits.specs.Bits.{bit, number_of, subset_of, first_of, without_first, size_of, union_at}

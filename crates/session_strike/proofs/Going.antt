@@ -1,5 +1,6 @@
 -- The loop that goes on from a table: what it keeps, that it ends, and that it leads to the last table. Assumes nothing.
-use Rattle.base_lists.specs.Kit.{◌≡◌, ◌∙◌, sym, ap, ap₂, refl, Bool, false, true, cond, not, List, ℕ, ◌≤◌, ◌<◌, suc, zero, eqb, ltb, length, get_or, set, arith, le-ltb, lt-ltb, eqb-true, not-true, ltb-false, eqb-false, ltb-true}
+use Rattle.std.specs.Prelude.{◌≡◌, ◌≤◌, ◌<◌}
+use Rattle.base_lists.specs.Kit.{◌∙◌, sym, ap, ap₂, refl, Bool, false, true, cond, not, List, ℕ, suc, zero, eqb, ltb, length, get_or, set, arith, le-ltb, lt-ltb, eqb-true, not-true, ltb-false, eqb-false, ltb-true}
 use Rattle.base_lists.proofs.Below.{least_below-at}
 use Rattle.base_lists.proofs.Tests.{T_true, T_false, false-T}
 use Rattle.base_bits.proofs.Counts.{size_less}

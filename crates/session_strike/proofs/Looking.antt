@@ -1,5 +1,6 @@
 -- Laws of a look at one node: what its next set is made from, and what a look leaves. Assumes nothing.
-use Rattle.base_lists.specs.Kit.{◌≡◌, ◌∙◌, sym, ap, refl, List, ℕ, ◌≤◌, ◌<◌, ◌^◌, length, get_or, set, length-set, get_or-eq_default, set-get_or, eq-eqb, ne_eqb}
+use Rattle.std.specs.Prelude.{◌≡◌, ◌≤◌, ◌<◌, ◌^◌}
+use Rattle.base_lists.specs.Kit.{◌∙◌, sym, ap, refl, List, ℕ, length, get_or, set, length-set, get_or-eq_default, set-get_or, eq-eqb, ne_eqb}
 use Rattle.base_bits.specs.Bits.{Subset, union_at}
 use Rattle.base_bits.proofs.Numbers.{number_lt}
 use Rattle.simulation.specs.Simulation.{Direction, forwards, backwards}

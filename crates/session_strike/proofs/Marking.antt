@@ -1,5 +1,6 @@
 -- Laws of marks: which nodes are marked after one is marked or taken away, and how many. Assumes nothing.
-use Rattle.base_lists.specs.Kit.{◌≡◌, ◌∙◌, ap, refl, Bool, false, true, cond, not, List, [], ◌∷◌, ℕ, ◌≤◌, ◌<◌, suc, zero, ◌*◌, ◌^◌, ◌/◌, ◌%◌, not-suc-le-zero, le_of_suc-le-suc, T, eqb, ltb, length, get_or, set, length-set, replicate, get_or-eq_default, length-replicate, get_or-set_other, get_or-set_same, set_out, arith, eq-eqb, ne_eqb, lt-ltb, eqb-true, not-false, ltb-false, eqb-false, ltb-true}
+use Rattle.std.specs.Prelude.{◌≡◌, ◌∷◌, ◌≤◌, ◌<◌, ◌*◌, ◌^◌, ◌/◌, ◌%◌}
+use Rattle.base_lists.specs.Kit.{◌∙◌, ap, refl, Bool, false, true, cond, not, List, [], ℕ, suc, zero, not-suc-le-zero, le_of_suc-le-suc, T, eqb, ltb, length, get_or, set, length-set, replicate, get_or-eq_default, length-replicate, get_or-set_other, get_or-set_same, set_out, arith, eq-eqb, ne_eqb, lt-ltb, eqb-true, not-false, ltb-false, eqb-false, ltb-true}
 use lib.Bits.{bit_or, or_lt}
 use lib.Pow.{pow-lt}
 use Rattle.base_lists.specs.List.{Occurs}

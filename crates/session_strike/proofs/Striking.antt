@@ -1,6 +1,7 @@
 -- Striking node by node leads to the row's last table: the next set of a node by masks and moves is that of the row, a table to begin with stays one,
 -- and a node none of whose neighbours changed keeps its set. Assumes nothing.
-use Rattle.base_lists.specs.Kit.{◌≡◌, ◌∙◌, sym, ap, refl, subst, ap₂, ◌↔◌, ⊎_elim, ◌⊎◌, inl, inr, Bool, false, true, ◌&&◌, and-true, List, ℕ, ◌≤◌, ◌<◌, ◌*◌, T, eqb, ltb, length, get_or, set, length-set, get_or-set_other, get_or-set_same, set_out, eqb-true, ltb-false, eqb-false, ltb-true}
+use Rattle.std.specs.Prelude.{◌≡◌, ◌↔◌, ◌⊎◌, ◌&&◌, ◌≤◌, ◌<◌, ◌*◌}
+use Rattle.base_lists.specs.Kit.{◌∙◌, sym, ap, refl, subst, ap₂, ⊎_elim, inl, inr, Bool, false, true, and-true, List, ℕ, T, eqb, ltb, length, get_or, set, length-set, get_or-set_other, get_or-set_same, set_out, eqb-true, ltb-false, eqb-false, ltb-true}
 use Rattle.base_lists.specs.List.{Occurs}
 use Rattle.base_lists.proofs.Tables.{is-tabulate, get_d_tabulate}
 use Rattle.base_lists.proofs.Tests.{any_at, at-any, same_test, T_false, false-T}

@@ -1,6 +1,7 @@
 -- When going on from a table node by node (Moves: `settled`) leads to the row's last table: the table is one to begin with, masks and moves are a
 -- pattern's and a board's, and each node that changes is marked.
-use Rattle.base_lists.specs.Kit.{◌≡◌, ◌↔◌, false, List, ℕ, ◌≤◌, ◌<◌, length, get_or}
+use Rattle.std.specs.Prelude.{◌≡◌, ◌↔◌, ◌≤◌, ◌<◌}
+use Rattle.base_lists.specs.Kit.{false, List, ℕ, length, get_or}
 use Rattle.base_lists.specs.List.{Occurs, Below}
 use Rattle.graph.specs.Circuit.{Circuit}
 use Rattle.simulation.specs.Simulation.{Direction}

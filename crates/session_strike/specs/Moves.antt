@@ -1,7 +1,8 @@
 -- The links of a board as a session keeps them, so that one can be taken out: by their numbers. One list has for each node the numbers of the
 -- links that start there, and then for each those of the links that end there, with offsets as neighbour tables have them (graph/specs/Net);
 -- another has each link's end, and then each one's start. A link that is out has neither: its two entries are no node's number.
-use Rattle.base_lists.specs.Kit.{◌≡◌, Bool, cond, not, List, [], ◌∷◌, ℕ, ◌+◌, suc, zero, ◌*◌, ◌^◌, ◌/◌, ◌%◌, eqb, ltb, length, get_or, set, replicate}
+use Rattle.std.specs.Prelude.{◌≡◌, ◌∷◌, ◌+◌, ◌*◌, ◌^◌, ◌/◌, ◌%◌}
+use Rattle.base_lists.specs.Kit.{Bool, cond, not, List, [], ℕ, suc, zero, eqb, ltb, length, get_or, set, replicate}
 use Rattle.std.specs.Int.Bits.{bit_or}
 use Rattle.base_lists.specs.Below.{least_below}
 use Rattle.base_bits.specs.Bits.{bit, first_of, without_first, union_at}

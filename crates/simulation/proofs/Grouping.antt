@@ -1,7 +1,8 @@
 -- Nothing more could be joined: a grouping of a pattern's parts whose groups match what each of their members matches joins no parts but such
 -- as match each other, and so has at least as many groups as there are classes of mutual matching. These classes are such a grouping. The
 -- agreement need not be symmetric. Assumes nothing.
-use Rattle.base_lists.specs.Kit.{◌≡◌, ◌∙◌, sym, refl, true, ℕ, ◌≤◌, ◌<◌, zero, arith}
+use Rattle.std.specs.Prelude.{◌≡◌, ◌≤◌, ◌<◌}
+use Rattle.base_lists.specs.Kit.{◌∙◌, sym, refl, true, ℕ, zero, arith}
 use native.Mathlib.Decide.{dec_lt}
 use Rattle.base_lists.proofs.Ranks.{count-images}
 use Rattle.base_lists.proofs.Below.{count_below-all}

@@ -1,6 +1,7 @@
 -- The place is the component of the centre in the match graph of the largest dual simulation, and there is none where the centre does not
 -- occur in that. Assumes nothing.
-use Rattle.base_lists.specs.Kit.{◌↔◌, inl, inr, iff_rfl, ℕ}
+use Rattle.std.specs.Prelude.{◌↔◌}
+use Rattle.base_lists.specs.Kit.{inl, inr, iff_rfl, ℕ}
 use Rattle.graph.specs.Graph.{Graph, Subgraph, Contains, Connected, Walk, stay, step}
 use Rattle.simulation.specs.Closed.{Relation, ◌⊆◌, Closed, Restrict}
 use Rattle.simulation.specs.Simulation.{Largest, Candidate, Direction, forwards, backwards, Along}

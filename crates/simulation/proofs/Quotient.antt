@@ -1,6 +1,7 @@
 -- Merging keeps what is found: the pattern and its quotient by mutual matching have the same match graphs, perfect subgraphs and places,
 -- and no distance of the quotient is larger. Assumes nothing.
-use Rattle.base_lists.specs.Kit.{◌≡◌, ◌∙◌, sym, refl, subst, subst₂, ◌↔◌, ℕ, ◌≤◌, le_trans}
+use Rattle.std.specs.Prelude.{◌≡◌, ◌↔◌, ◌≤◌}
+use Rattle.base_lists.specs.Kit.{◌∙◌, sym, refl, subst, subst₂, ℕ, le_trans}
 use Rattle.graph.specs.Graph.{Graph, Connected, Walk, Radius}
 use Rattle.simulation.specs.Closed.{Relation, Compose}
 use Rattle.simulation.specs.Simulation.{DualSimulation, Largest, Direction, forwards, backwards, Along}

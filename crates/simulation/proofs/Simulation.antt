@@ -1,5 +1,6 @@
 -- A dual simulation is a set that is closed for both directions and in which every part occurs. Assumes nothing.
-use Rattle.base_lists.specs.Kit.{◌↔◌, ◌⊎◌, inl, inr, ℕ}
+use Rattle.std.specs.Prelude.{◌↔◌, ◌⊎◌}
+use Rattle.base_lists.specs.Kit.{inl, inr, ℕ}
 use Rattle.graph.specs.Graph.{Graph, Subgraph, Connected, Walk, stay, step}
 use Rattle.simulation.specs.Closed.{Relation, ◌⊆◌, Closed, Occurring, LargestClosed, Compose}
 use Rattle.simulation.specs.Simulation.{DualSimulation, Largest, Candidate, Direction, forwards, backwards, Along}

@@ -1,5 +1,6 @@
 -- Laws of walks, directions ignored: they can be mapped, turned round and joined. Assumes nothing.
-use Rattle.base_lists.specs.Kit.{◌⊎◌, ⊎_swap, ⊎_map, ℕ, suc}
+use Rattle.std.specs.Prelude.{◌⊎◌}
+use Rattle.base_lists.specs.Kit.{⊎_swap, ⊎_map, ℕ, suc}
 use Rattle.graph.specs.Graph.{Walk, stay, step}
 use Rattle.simulation.specs.Closed.{Relation, ◌⊆◌}
 use Rattle.simulation.specs.Perfect.{Joined}

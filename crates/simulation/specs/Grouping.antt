@@ -1,6 +1,7 @@
 -- Groupings of a pattern's parts. A grouping is made into a pattern as merging does it: specs/Quotient's QuotientGraph and QuotientAgree, of
 -- which the merged pattern is the instance for the classes of mutual matching.
-use Rattle.base_lists.specs.Kit.{◌≡◌, ◌↔◌, ℕ, ◌<◌}
+use Rattle.std.specs.Prelude.{◌≡◌, ◌↔◌, ◌<◌}
+use Rattle.base_lists.specs.Kit.{ℕ}
 use Rattle.graph.specs.Graph.{Graph}
 use Rattle.simulation.specs.Closed.{Relation}
 

@@ -1,5 +1,6 @@
 -- Match graph, perfect subgraph and place; the component of a node; when two graphs are the same.
-use Rattle.base_lists.specs.Kit.{◌↔◌, ℕ}
+use Rattle.std.specs.Prelude.{◌↔◌}
+use Rattle.base_lists.specs.Kit.{ℕ}
 use Rattle.graph.specs.Graph.{Graph, Subgraph, Contains, Connected, Walk, Ball}
 use Rattle.simulation.specs.Closed.{Relation}
 use Rattle.simulation.specs.Simulation.{Largest}

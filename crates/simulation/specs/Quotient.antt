@@ -1,5 +1,6 @@
 -- The merged pattern: the quotient of the pattern by mutual matching. (Class and merged pattern are document 01's terms.)
-use Rattle.base_lists.specs.Kit.{◌≡◌, ◌↔◌, ℕ}
+use Rattle.std.specs.Prelude.{◌≡◌, ◌↔◌}
+use Rattle.base_lists.specs.Kit.{ℕ}
 use Rattle.graph.specs.Graph.{Graph, Subgraph}
 use Rattle.simulation.specs.Closed.{Relation}
 use Rattle.simulation.specs.Simulation.{Largest}

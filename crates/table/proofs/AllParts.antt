@@ -1,5 +1,6 @@
 -- A table has each of its parts at some node exactly when the union of its sets has as many parts. Assumes nothing.
-use Rattle.base_lists.specs.Kit.{◌≡◌, ◌∙◌, sym, ap, Bool, ◌||◌, List, [], ◌∷◌, ℕ, ◌≤◌, ◌<◌, suc, zero, ◌^◌, eqb, length, get_or, replicate, eq-eqb, ne_eqb}
+use Rattle.std.specs.Prelude.{◌≡◌, ◌||◌, ◌∷◌, ◌≤◌, ◌<◌, ◌^◌}
+use Rattle.base_lists.specs.Kit.{◌∙◌, sym, ap, Bool, List, [], ℕ, suc, zero, eqb, length, get_or, replicate, eq-eqb, ne_eqb}
 use lib.Bits.{or_lt}
 use lib.Pow.{pow_pos}
 use Rattle.base_lists.specs.List.{any_below}

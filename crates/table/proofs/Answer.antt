@@ -1,6 +1,7 @@
 -- The whole-board call's answer, for any directions and for every pattern, connected or not: the largest set that is closed along them and in
 -- which every part occurs. For both directions and a connected pattern it is the row's last set with the row's counts. Assumes nothing.
-use Rattle.base_lists.specs.Kit.{◌≡◌, ◌∙◌, sym, refl, ◌↔◌, iff_rfl, Bool, false, true, cond, List, map, ℕ, ◌≤◌, ◌<◌, ◌+◌, le_refl, T, length}
+use Rattle.std.specs.Prelude.{◌≡◌, ◌↔◌, ◌≤◌, ◌<◌, ◌+◌}
+use Rattle.base_lists.specs.Kit.{◌∙◌, sym, refl, iff_rfl, Bool, false, true, cond, List, map, ℕ, le_refl, T, length}
 use lib.Count.{ones}
 use Rattle.base_lists.specs.List.{tabulate, sum}
 use Rattle.base_lists.proofs.Tests.{T_false, true-T}

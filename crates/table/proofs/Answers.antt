@@ -1,5 +1,6 @@
 -- Tests over what a node drives, and the set of pairs that a table holds. Assumes nothing.
-use Rattle.base_lists.specs.Kit.{◌↔◌, Bool, List, ℕ, T}
+use Rattle.std.specs.Prelude.{◌↔◌}
+use Rattle.base_lists.specs.Kit.{Bool, List, ℕ, T}
 use Rattle.base_lists.specs.List.{any}
 use Rattle.base_lists.proofs.Entries.{any-occurs}
 use Rattle.graph.specs.Circuit.{HasLink}

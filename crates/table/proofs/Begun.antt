@@ -1,6 +1,7 @@
 -- What first tables come to: the table of all pairs of equal kinds, and a larger graph's last table, cut to the nodes of a list. Assumes
 -- nothing.
-use Rattle.base_lists.specs.Kit.{◌≡◌, ◌∙◌, sym, ap, refl, subst, ap₂, Bool, false, true, cond, ◌&&◌, List, ℕ, ◌≤◌, ◌<◌, T, eqb, length, get_or}
+use Rattle.std.specs.Prelude.{◌≡◌, ◌&&◌, ◌≤◌, ◌<◌}
+use Rattle.base_lists.specs.Kit.{◌∙◌, sym, ap, refl, subst, ap₂, Bool, false, true, cond, List, ℕ, T, eqb, length, get_or}
 use Rattle.base_lists.proofs.Tables.{get_d_tabulate, tabulate-same}
 use Rattle.base_lists.proofs.Tests.{T_true, false-T, cond-test}
 use Rattle.base_bits.specs.Bits.{bit, number_of}

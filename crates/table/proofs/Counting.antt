@@ -1,7 +1,8 @@
 -- The row of a pattern on a circuit comes to rest at its last set, and the four counts say how: table_row's laws, for any directions and at most 32
 -- parts.
 -- Assumes nothing.
-use Rattle.base_lists.specs.Kit.{◌≡◌, refl, ◌≢◌, List, map, ℕ, ◌≤◌, ◌<◌, ◌-◌, suc, length}
+use Rattle.std.specs.Prelude.{◌≡◌, ◌≢◌, ◌≤◌, ◌<◌, ◌-◌}
+use Rattle.base_lists.specs.Kit.{refl, List, map, ℕ, suc, length}
 use lib.Count.{ones}
 use Rattle.base_lists.specs.List.{sum}
 use Rattle.graph.specs.Circuit.{Circuit}

@@ -1,5 +1,6 @@
 -- The masks of the directions chosen: a direction that is not among them asks for nothing. Assumes nothing.
-use Rattle.base_lists.specs.Kit.{◌≡◌, ◌∙◌, sym, ap, refl, Bool, false, true, cond, ◌&&◌, not, ◌||◌, List, [], ◌∷◌, ℕ, ◌<◌, get_or}
+use Rattle.std.specs.Prelude.{◌≡◌, ◌&&◌, ◌||◌, ◌∷◌, ◌<◌}
+use Rattle.base_lists.specs.Kit.{◌∙◌, sym, ap, refl, Bool, false, true, cond, not, List, [], ℕ, get_or}
 use Rattle.base_lists.specs.List.{any}
 use Rattle.base_lists.proofs.Tests.{T_true, at-all_below}
 use Rattle.base_lists.proofs.Tables.{get_d_tabulate}

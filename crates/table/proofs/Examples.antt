@@ -1,5 +1,6 @@
 -- Document 01's examples of the match table, by computation. Assumes nothing.
-use Rattle.base_lists.specs.Kit.{◌≡◌, refl, [], ◌∷◌}
+use Rattle.std.specs.Prelude.{◌≡◌, ◌∷◌}
+use Rattle.base_lists.specs.Kit.{refl, []}
 use Rattle.table.specs.Answer.{answer_by, answer_counts_by, answer_table, answer_counts}
 use Rattle.table.specs.Host.{everything}
 use Rattle.table.specs.Row.{one_way, last_by, started, last_table, kept, struck, rounds}

@@ -1,5 +1,6 @@
 -- Laws of tables that are written at the nodes of a list. Assumes nothing.
-use Rattle.base_lists.specs.Kit.{◌≡◌, ◌∙◌, sym, ap, refl, subst, Bool, false, true, cond, ◌||◌, List, [], ◌∷◌, ℕ, ◌<◌, T, eqb, eqb→eq, length, get_or, set, length-set, replicate, length-replicate, get_or-replicate, get_or-set_other, get_or-set_same, eq-eqb, eqb-true, eqb-false}
+use Rattle.std.specs.Prelude.{◌≡◌, ◌||◌, ◌∷◌, ◌<◌}
+use Rattle.base_lists.specs.Kit.{◌∙◌, sym, ap, refl, subst, Bool, false, true, cond, List, [], ℕ, T, eqb, eqb→eq, length, get_or, set, length-set, replicate, length-replicate, get_or-replicate, get_or-set_other, get_or-set_same, eq-eqb, eqb-true, eqb-false}
 use Rattle.base_lists.specs.List.{any, Occurs}
 use Rattle.base_lists.proofs.Tables.{is-tabulate, length-tabulate, get_d_tabulate}
 use Rattle.base_lists.proofs.Tests.{true-T, any_at, at-any}

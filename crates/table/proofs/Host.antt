@@ -1,5 +1,6 @@
 -- The graph H presented in different ways: a board is itself with every node taken, and the row depends on H alone. Assumes nothing.
-use Rattle.base_lists.specs.Kit.{iff_rfl, ℕ, ◌≤◌, ◌<◌, length}
+use Rattle.std.specs.Prelude.{◌≤◌, ◌<◌}
+use Rattle.base_lists.specs.Kit.{iff_rfl, ℕ, length}
 use Rattle.base_lists.proofs.Tables.{get_d_tabulate}
 use Rattle.graph.specs.Circuit.{Circuit, graph_of, circuit_graph}
 use Rattle.graph.specs.Graph.{Connected}

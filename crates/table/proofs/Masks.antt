@@ -1,5 +1,6 @@
 -- Laws of the masks: the sets of the parts that a part drives, or that drive it, built link by link. Assumes nothing.
-use Rattle.base_lists.specs.Kit.{◌≡◌, ◌∙◌, sym, ap, refl, subst, Bool, false, true, cond, ◌||◌, or-false, or_assoc, List, [], ◌∷◌, ℕ, ◌≤◌, ◌<◌, ◌+◌, ◌^◌, not-le_of_lt, add-one, eqb, length, get_or, drop, set, length-set, replicate, drop_of_length-le, length-replicate, get_or-replicate, get_or-set_other, drop-cons, get_or-set_same, eqb-true, eqb-false}
+use Rattle.std.specs.Prelude.{◌≡◌, ◌||◌, ◌∷◌, ◌≤◌, ◌<◌, ◌+◌, ◌^◌}
+use Rattle.base_lists.specs.Kit.{◌∙◌, sym, ap, refl, subst, Bool, false, true, cond, or-false, or_assoc, List, [], ℕ, not-le_of_lt, add-one, eqb, length, get_or, drop, set, length-set, replicate, drop_of_length-le, length-replicate, get_or-replicate, get_or-set_other, drop-cons, get_or-set_same, eqb-true, eqb-false}
 use lib.Bits.{bit_or}
 use Rattle.base_lists.specs.List.{any, Below}
 use Rattle.base_lists.proofs.Tests.{T_false, eqb-sym}

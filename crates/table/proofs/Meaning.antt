@@ -1,5 +1,6 @@
 -- The last table of the row is the largest closed set and, for a connected pattern, the largest dual simulation. Assumes nothing.
-use Rattle.base_lists.specs.Kit.{List, ℕ, ◌≤◌, length}
+use Rattle.std.specs.Prelude.{◌≤◌}
+use Rattle.base_lists.specs.Kit.{List, ℕ, length}
 use Rattle.graph.specs.Circuit.{Circuit, circuit_graph}
 use Rattle.graph.specs.Graph.{Connected}
 use Rattle.simulation.specs.Closed.{◌⊆◌, LargestClosed}

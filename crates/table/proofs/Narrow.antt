@@ -1,5 +1,6 @@
 -- More nodes, more pairs: so a ball's largest dual simulation lies in the whole board's. Assumes nothing.
-use Rattle.base_lists.specs.Kit.{List, ℕ, ◌≤◌, length}
+use Rattle.std.specs.Prelude.{◌≤◌}
+use Rattle.base_lists.specs.Kit.{List, ℕ, length}
 use Rattle.graph.specs.Circuit.{Circuit}
 use Rattle.simulation.specs.Closed.{◌⊆◌}
 use Rattle.table_row.specs.Reading.{InTable, Wider}

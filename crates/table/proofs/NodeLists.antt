@@ -1,5 +1,6 @@
 -- Laws of the list of all nodes. Assumes nothing.
-use Rattle.base_lists.specs.Kit.{◌≡◌, subst, true, cond, List, ℕ, ◌≤◌, ◌<◌, eqb, eqb_refl, length, get_or, arith, ne_eqb}
+use Rattle.std.specs.Prelude.{◌≡◌, ◌≤◌, ◌<◌}
+use Rattle.base_lists.specs.Kit.{subst, true, cond, List, ℕ, eqb, eqb_refl, length, get_or, arith, ne_eqb}
 use Rattle.base_lists.specs.List.{any, tabulate, Below}
 use Rattle.base_lists.specs.Below.{count_below, least_below}
 use Rattle.base_lists.proofs.Below.{least_below-is, count_below-all}

@@ -1,5 +1,6 @@
 -- How many pairs a table has. Assumes nothing.
-use Rattle.base_lists.specs.Kit.{◌≡◌, List, [], ◌∷◌, ℕ, ◌≤◌, ◌<◌, ◌+◌, ◌-◌, suc, zero, ◌*◌, zero-le, not-suc-le-zero, le_of_suc-le-suc, length, get_or, set, arith}
+use Rattle.std.specs.Prelude.{◌≡◌, ◌∷◌, ◌≤◌, ◌<◌, ◌+◌, ◌-◌, ◌*◌}
+use Rattle.base_lists.specs.Kit.{List, [], ℕ, suc, zero, zero-le, not-suc-le-zero, le_of_suc-le-suc, length, get_or, set, arith}
 use Rattle.base_lists.specs.List.{sum}
 use Rattle.base_bits.specs.Bits.{size_of}
 use Rattle.base_bits.proofs.Counts.{size-le}

@@ -1,5 +1,6 @@
 -- How many masks there are. Assumes nothing.
-use Rattle.base_lists.specs.Kit.{◌≡◌, List, ℕ, length}
+use Rattle.std.specs.Prelude.{◌≡◌}
+use Rattle.base_lists.specs.Kit.{List, ℕ, length}
 use Rattle.base_lists.proofs.Tables.{length-tabulate}
 use Rattle.base_bits.specs.Bits.{number_of}
 use Rattle.graph.specs.Neighbours.{select}

@@ -1,5 +1,6 @@
 -- A reply that counts has the verdict that it was made from. Assumes nothing.
-use Rattle.base_lists.specs.Kit.{◌≡◌, refl}
+use Rattle.std.specs.Prelude.{◌≡◌}
+use Rattle.base_lists.specs.Kit.{refl}
 use Rattle.table.specs.declared.Counts.{Counts}
 use Rattle.table.specs.Reply.{counts_reply}
 use Rattle.file_format.specs.Refusals.{Verdict, accept, refuse}

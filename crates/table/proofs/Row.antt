@@ -1,6 +1,7 @@
 -- The row of a pattern on a circuit is the row of sets that begins with the pairs of equal kinds, and follows links in the ways chosen. Along
 -- both ways it contains every dual simulation. Assumes nothing.
-use Rattle.base_lists.specs.Kit.{◌≡◌, refl, ◌↔◌, inl, inr, iff_trans, List, ℕ, suc, length}
+use Rattle.std.specs.Prelude.{◌≡◌, ◌↔◌}
+use Rattle.base_lists.specs.Kit.{refl, inl, inr, iff_trans, List, ℕ, suc, length}
 use Rattle.base_lists.specs.List.{Occurs}
 use Rattle.base_lists.proofs.Tests.{both_true, both_left, both_right}
 use Rattle.graph.specs.Circuit.{Circuit, HasLink, graph_of, circuit_graph}

@@ -1,6 +1,7 @@
 -- What the whole-board call answers, for patterns that may lie in several bits: "If some part is left without a node, the table is all 0,
 -- kept is 0, struck equals started, and rounds count as before." The row is run to its end, and clearing the table is no round.
-use Rattle.base_lists.specs.Kit.{◌≡◌, Bool, false, true, List, ℕ}
+use Rattle.std.specs.Prelude.{◌≡◌}
+use Rattle.base_lists.specs.Kit.{Bool, false, true, List, ℕ}
 use Rattle.graph.specs.Circuit.{Circuit}
 use Rattle.table_row.specs.Answer.{answer_of, answer_kept, answer_struck}
 unfoldable pub use Rattle.table_row.specs.Answer.{all_occur, all_or_none}

@@ -1,5 +1,6 @@
 -- The circuits of document 01's examples, and what is opened where their tables are computed.
-use Rattle.base_lists.specs.Kit.{[], ◌∷◌}
+use Rattle.std.specs.Prelude.{◌∷◌}
+use Rattle.base_lists.specs.Kit.{[]}
 use Rattle.base_lists.specs.List.{all, any, all_below, any_below, tabulate, sum}
 use Rattle.base_lists.specs.Below.{count_below}
 use Rattle.base_bits.specs.Bits.{bit, number_of, size_of}

@@ -1,5 +1,6 @@
 -- Tables of sets that are written at the nodes of a list: what the loops over a list of nodes do. Start and strike are both of this form.
-use Rattle.base_lists.specs.Kit.{◌≡◌, false, cond, List, [], ◌∷◌, ℕ, ◌≤◌, ◌<◌, ◌+◌, zero, length, get_or, set}
+use Rattle.std.specs.Prelude.{◌≡◌, ◌∷◌, ◌≤◌, ◌<◌, ◌+◌}
+use Rattle.base_lists.specs.Kit.{false, cond, List, [], ℕ, zero, length, get_or, set}
 use Rattle.base_lists.specs.List.{tabulate, Below}
 use Rattle.base_bits.specs.Bits.{size_of}
 unfoldable pub use Rattle.table_row.specs.Masks.{listed}

@@ -1,5 +1,6 @@
 -- First tables: what striking may begin with, and how they are written at the nodes of a list.
-use Rattle.base_lists.specs.Kit.{◌≡◌, List, ℕ, length, get_or}
+use Rattle.std.specs.Prelude.{◌≡◌}
+use Rattle.base_lists.specs.Kit.{List, ℕ, length, get_or}
 use Rattle.base_bits.specs.Bits.{number_of}
 use Rattle.graph.specs.Circuit.{Circuit}
 use Rattle.table_row.specs.Reading.{Begins as BeginsOf}

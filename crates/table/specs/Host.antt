@@ -1,6 +1,7 @@
 -- The graph H in which a pattern is matched: "a board or a subgraph of one". It is given by a circuit, from which it takes some of the
 -- nodes, one byte each (1: taken), and some of the links: those that the circuit lists and whose ends are both taken.
-use Rattle.base_lists.specs.Kit.{◌≡◌, ◌⊎◌, List, ℕ, ◌<◌, T, length, get_or}
+use Rattle.std.specs.Prelude.{◌≡◌, ◌⊎◌, ◌<◌}
+use Rattle.base_lists.specs.Kit.{List, ℕ, T, length, get_or}
 use Rattle.file_format.specs.Label.{kind_in, package_in}
 use Rattle.graph.specs.Circuit.{Circuit, HasLink}
 use Rattle.graph.specs.Graph.{Graph}

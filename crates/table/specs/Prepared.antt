@@ -1,7 +1,8 @@
 -- What matching looks up: masks of the pattern and neighbour tables of the circuit, and when they are those of a pattern and a circuit. The
 -- calls above prepare them; how pairs are struck is not said here. One list has 64 masks: for each of 32 parts the parts that it drives, and
 -- then for each those that drive it. The neighbour tables are two lists, as graph/specs/Net has them.
-use Rattle.base_lists.specs.Kit.{◌≡◌, cond, List, [], ℕ, ◌≤◌, length}
+use Rattle.std.specs.Prelude.{◌≡◌, ◌≤◌}
+use Rattle.base_lists.specs.Kit.{cond, List, [], ℕ, length}
 use Rattle.base_lists.specs.List.{tabulate, part, Below}
 use Rattle.base_bits.specs.Bits.{number_of, Words}
 use Rattle.graph.specs.Circuit.{Circuit}

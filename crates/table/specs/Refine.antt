@@ -1,5 +1,6 @@
 -- What the refinement of a first table to the last set of the row promises, for the directions that the tables are of.
-use Rattle.base_lists.specs.Kit.{◌≡◌, List, ℕ, ◌-◌, length}
+use Rattle.std.specs.Prelude.{◌≡◌, ◌-◌}
+use Rattle.base_lists.specs.Kit.{List, ℕ, length}
 use Rattle.graph.specs.Circuit.{Circuit}
 use Rattle.table.specs.Fill.{marks_of}
 use Rattle.table.specs.First.{BeginsBy}

@@ -1,7 +1,8 @@
 -- The row of sets of a pattern on a circuit, and the four counts: what the contracts cite. They are those of a problem as table_row has it:
 -- which part agrees with which node, and links to be followed in the directions chosen. proofs/ shows that the last set is the largest closed
 -- one, and so what dual simulation and graph simulation have as their largest.
-use Rattle.base_lists.specs.Kit.{Bool, false, true, ◌&&◌, ◌||◌, List, [], ◌∷◌, ℕ, eqb, length, get_or}
+use Rattle.std.specs.Prelude.{◌&&◌, ◌||◌, ◌∷◌}
+use Rattle.base_lists.specs.Kit.{Bool, false, true, List, [], ℕ, eqb, length, get_or}
 use Rattle.file_format.specs.Label.{kind_in, package_in}
 use Rattle.graph.specs.Circuit.{Circuit}
 use Rattle.graph.specs.Neighbours.{select}

@@ -1,5 +1,6 @@
 -- Writing a first table, node by node: what the loop over the list of nodes leads to, and how many pairs the table has. Assumes nothing.
-use Rattle.base_lists.specs.Kit.{◌≡◌, ◌∙◌, sym, ap, refl, List, [], ◌∷◌, ℕ, ◌≤◌, ◌<◌, ◌+◌, suc, zero, ◌*◌, ◌^◌, zero-le, suc-le-suc, not-suc-le-zero, le_of_suc-le-suc, zero-lt-suc, add-one, length, get_or, drop, set, length-set, replicate, drop_of_length-le, length-replicate, get_or-replicate, get_or-set_other, drop-cons, arith}
+use Rattle.std.specs.Prelude.{◌≡◌, ◌∷◌, ◌≤◌, ◌<◌, ◌+◌, ◌*◌, ◌^◌}
+use Rattle.base_lists.specs.Kit.{◌∙◌, sym, ap, refl, List, [], ℕ, suc, zero, zero-le, suc-le-suc, not-suc-le-zero, le_of_suc-le-suc, zero-lt-suc, add-one, length, get_or, drop, set, length-set, replicate, drop_of_length-le, length-replicate, get_or-replicate, get_or-set_other, drop-cons, arith}
 use Rattle.base_lists.specs.List.{sum, Below}
 use Rattle.base_bits.specs.Bits.{size_of}
 use Rattle.base_bits.proofs.Counts.{size_none, size-le}

@@ -1,5 +1,6 @@
 -- Only what may change is looked at: a node none of whose neighbours changed keeps its set. Assumes nothing.
-use Rattle.base_lists.specs.Kit.{◌≡◌, ◌∙◌, sym, ap, refl, subst, ap₂, ◌⊎◌, inl, inr, Bool, false, true, cond, not, List, ℕ, ◌<◌, ◌^◌, T, eqb, length, get_or, eqb-true, eqb-false}
+use Rattle.std.specs.Prelude.{◌≡◌, ◌⊎◌, ◌<◌, ◌^◌}
+use Rattle.base_lists.specs.Kit.{◌∙◌, sym, ap, refl, subst, ap₂, inl, inr, Bool, false, true, cond, not, List, ℕ, T, eqb, length, get_or, eqb-true, eqb-false}
 use Rattle.base_lists.specs.List.{Occurs, Below}
 use Rattle.base_lists.proofs.Tests.{true-T, false-T, both_right}
 use Rattle.base_lists.proofs.Tables.{length-tabulate, get_d_tabulate, is-tabulate}

@@ -1,5 +1,6 @@
 -- The loop of rounds: from one table to the next, until a round strikes nothing. Assumes nothing.
-use Rattle.base_lists.specs.Kit.{◌≡◌, ◌∙◌, sym, ap, refl, subst, ap₂, ⊎_elim, ◌⊎◌, List, [], ℕ, ◌≤◌, ◌<◌, ◌+◌, suc, ◌^◌, not-suc-le-zero, le_refl, lt_of_le_of_lt, add-one, T, length, get_or, take, replicate, get_or-eq_default, length-take-le, arith}
+use Rattle.std.specs.Prelude.{◌≡◌, ◌⊎◌, ◌≤◌, ◌<◌, ◌+◌, ◌^◌}
+use Rattle.base_lists.specs.Kit.{◌∙◌, sym, ap, refl, subst, ap₂, ⊎_elim, List, [], ℕ, suc, not-suc-le-zero, le_refl, lt_of_le_of_lt, add-one, T, length, get_or, take, replicate, get_or-eq_default, length-take-le, arith}
 use native.Mathlib.Decide.{dec_lt}
 use borrow.Author.Count.{below_more}
 use Rattle.base_lists.specs.List.{Occurs, Below}

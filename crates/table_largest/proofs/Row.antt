@@ -1,5 +1,6 @@
 -- Striking over masks, neighbour tables and a list of nodes is the striking of the row. Assumes nothing.
-use Rattle.base_lists.specs.Kit.{◌≡◌, ◌∙◌, sym, ap, refl, ap₂, Bool, ◌&&◌, List, ℕ, ◌<◌, suc, zero, length, get_or}
+use Rattle.std.specs.Prelude.{◌≡◌, ◌&&◌, ◌<◌}
+use Rattle.base_lists.specs.Kit.{◌∙◌, sym, ap, refl, ap₂, Bool, List, ℕ, suc, zero, length, get_or}
 use Rattle.base_lists.specs.List.{tabulate}
 use Rattle.base_lists.proofs.Tests.{T_false, false-T}
 use Rattle.base_lists.proofs.Tables.{tabulate-same}

@@ -1,6 +1,7 @@
 -- The list of the nodes to look at next, made with marks: it has what lies beside the nodes that changed, each once, and without its marks the
 -- table of marks is as it was. Assumes nothing.
-use Rattle.base_lists.specs.Kit.{◌≡◌, ◌∙◌, sym, ap, refl, Bool, false, true, cond, List, [], ℕ, ◌<◌, zero-le, not-suc-le-zero, T, eqb, length, get_or, replicate, length-replicate, get_or-replicate, ext_get_or, arith, eqb-true, eqb-false}
+use Rattle.std.specs.Prelude.{◌≡◌, ◌<◌}
+use Rattle.base_lists.specs.Kit.{◌∙◌, sym, ap, refl, Bool, false, true, cond, List, [], ℕ, zero-le, not-suc-le-zero, T, eqb, length, get_or, replicate, length-replicate, get_or-replicate, ext_get_or, arith, eqb-true, eqb-false}
 use Rattle.base_lists.specs.List.{Occurs, Below}
 use Rattle.base_lists.proofs.Tests.{T_true, false-T}
 use Rattle.graph.specs.Bfs.{SearchState, level, SearchReady, state_of, Searching}

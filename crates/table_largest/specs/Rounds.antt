@@ -1,6 +1,7 @@
 -- Rounds of striking over neighbour tables and masks, and when a list has all nodes that change in a round: what the contracts here cite.
 -- proofs/Row ties the rounds to the row of sets.
-use Rattle.base_lists.specs.Kit.{◌≡◌, ◌↔◌, false, List, ℕ, ◌≤◌, ◌<◌, suc, zero, length, get_or}
+use Rattle.std.specs.Prelude.{◌≡◌, ◌↔◌, ◌≤◌, ◌<◌}
+use Rattle.base_lists.specs.Kit.{false, List, ℕ, suc, zero, length, get_or}
 use Rattle.base_lists.specs.List.{tabulate, Occurs, Below}
 use Rattle.graph.specs.Net.{driven, driving}
 use Rattle.table.specs.Fill.{listed}

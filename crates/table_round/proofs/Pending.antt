@@ -1,5 +1,6 @@
 -- Laws of the two halves of a round: listing the nodes that change, and writing their sets. Assumes nothing.
-use Rattle.base_lists.specs.Kit.{◌≡◌, ◌∙◌, sym, ap, refl, subst, Bool, false, true, cond, ◌&&◌, not, ◌||◌, List, [], ◌∷◌, ◌++◌, append-nil, map, append_assoc, ℕ, ◌≤◌, ◌<◌, ◌+◌, ◌-◌, suc, zero-le, add-one, T, eqb, length, get_or, take, drop, set, length-set, drop_of_length-le, drop-cons, take-suc-set, arith, eqb-true, and-false}
+use Rattle.std.specs.Prelude.{◌≡◌, ◌&&◌, ◌||◌, ◌∷◌, ◌++◌, ◌≤◌, ◌<◌, ◌+◌, ◌-◌}
+use Rattle.base_lists.specs.Kit.{◌∙◌, sym, ap, refl, subst, Bool, false, true, cond, not, List, [], append-nil, map, append_assoc, ℕ, suc, zero-le, add-one, T, eqb, length, get_or, take, drop, set, length-set, drop_of_length-le, drop-cons, take-suc-set, arith, eqb-true, and-false}
 use Rattle.base_lists.specs.List.{any, Below}
 use Rattle.base_lists.proofs.Tests.{both_left}
 use Rattle.base_bits.specs.Bits.{size_of}

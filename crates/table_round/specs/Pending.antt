@@ -1,5 +1,6 @@
 -- A round in two halves: the nodes that change are listed, each with its next set, and then these sets are written.
-use Rattle.base_lists.specs.Kit.{◌≡◌, cond, List, [], ◌∷◌, map, ℕ, ◌≤◌, ◌+◌, eqb, length, get_or, take, set}
+use Rattle.std.specs.Prelude.{◌≡◌, ◌∷◌, ◌≤◌, ◌+◌}
+use Rattle.base_lists.specs.Kit.{cond, List, [], map, ℕ, eqb, length, get_or, take, set}
 use Rattle.table.specs.Row.{pairs}
 
 -- those nodes of a list to which a rule gives another set than they have

@@ -1,6 +1,7 @@
 -- The answer where every part has to occur: the largest set that is closed and in which every part occurs, unless it is empty; and its
 -- counts. Assumes nothing.
-use Rattle.base_lists.specs.Kit.{◌≡◌, ◌∙◌, sym, ap, refl, ◌↔◌, inl, inr, Bool, false, true, cond, List, [], ◌∷◌, map, ℕ, ◌≤◌, ◌<◌, ◌+◌, ◌-◌, le_refl, lt_of_lt_of_le, T, arith}
+use Rattle.std.specs.Prelude.{◌≡◌, ◌↔◌, ◌∷◌, ◌≤◌, ◌<◌, ◌+◌, ◌-◌}
+use Rattle.base_lists.specs.Kit.{◌∙◌, sym, ap, refl, inl, inr, Bool, false, true, cond, List, [], map, ℕ, le_refl, lt_of_lt_of_le, T, arith}
 use lib.Count.{ones}
 use Rattle.base_lists.specs.List.{any_below, tabulate, sum}
 use Rattle.base_lists.proofs.Tests.{T_true, all_below-at, at-all_below, any_below-at, at-any_below}

@@ -1,6 +1,7 @@
 -- Striking may begin with any table between the last one and the agreement: it comes to the same last set. Such a table is had from the
 -- last one of a problem that asks no more. Assumes nothing.
-use Rattle.base_lists.specs.Kit.{◌≡◌, ◌∙◌, sym, List, ℕ, ◌≤◌, suc, zero, lt_of_le_of_lt, length, get_or}
+use Rattle.std.specs.Prelude.{◌≡◌, ◌≤◌}
+use Rattle.base_lists.specs.Kit.{◌∙◌, sym, List, ℕ, suc, zero, lt_of_le_of_lt, length, get_or}
 use Rattle.base_bits.proofs.Numbers.{subset-le}
 use Rattle.simulation.specs.Closed.{◌⊆◌, Refine}
 use Rattle.table_row.specs.Problem.{Problem, Agreeing, MoveOf, with_moves}

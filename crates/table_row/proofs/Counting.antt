@@ -1,5 +1,6 @@
 -- The row comes to rest at its last set, and the four counts say how. Assumes nothing.
-use Rattle.base_lists.specs.Kit.{◌≡◌, ◌∙◌, sym, ap, refl, subst, ap₂, ◌⊎◌, ◌≢◌, Bool, false, not, List, [], ◌∷◌, map, ℕ, ◌≤◌, ◌<◌, ◌+◌, suc, le_refl, T, eqb, eqb→eq, eqb_refl, not_T, arith}
+use Rattle.std.specs.Prelude.{◌≡◌, ◌⊎◌, ◌≢◌, ◌∷◌, ◌≤◌, ◌<◌, ◌+◌}
+use Rattle.base_lists.specs.Kit.{◌∙◌, sym, ap, refl, subst, ap₂, Bool, false, not, List, [], map, ℕ, suc, le_refl, T, eqb, eqb→eq, eqb_refl, not_T, arith}
 use lib.Count.{ones}
 use Rattle.base_lists.specs.List.{sum}
 use Rattle.base_lists.specs.Below.{count_below}

@@ -1,5 +1,6 @@
 -- A sequence whose count falls with each step until the sequence repeats: where it first does. Assumes nothing.
-use Rattle.base_lists.specs.Kit.{◌≡◌, sym, subst, ⊎_elim, ◌⊎◌, inl, inr, ℕ, ◌≤◌, ◌<◌, ◌+◌, suc, zero, not-suc-le-zero, le_refl, le_of_suc-le-suc, eq-or-lt_of_le, arith}
+use Rattle.std.specs.Prelude.{◌≡◌, ◌⊎◌, ◌≤◌, ◌<◌, ◌+◌}
+use Rattle.base_lists.specs.Kit.{sym, subst, ⊎_elim, inl, inr, ℕ, suc, zero, not-suc-le-zero, le_refl, le_of_suc-le-suc, eq-or-lt_of_le, arith}
 use Rattle.table_row.specs.Row.{Falls}
 
 -- k is the first term that the next one repeats.

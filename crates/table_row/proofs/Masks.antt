@@ -1,5 +1,6 @@
 -- The round by masks is the strike, for any list of ways. Assumes nothing.
-use Rattle.base_lists.specs.Kit.{◌≡◌, ◌∙◌, sym, ap, subst, ap₂, Bool, ◌&&◌, not, ◌||◌, List, [], ◌∷◌, ℕ, ◌≤◌, ◌<◌, lt_of_lt_of_le, not-le_of_lt, T, eqb, eqb→eq, eqb_refl, length, get_or}
+use Rattle.std.specs.Prelude.{◌≡◌, ◌&&◌, ◌||◌, ◌∷◌, ◌≤◌, ◌<◌}
+use Rattle.base_lists.specs.Kit.{◌∙◌, sym, ap, subst, ap₂, Bool, not, List, [], ℕ, lt_of_lt_of_le, not-le_of_lt, T, eqb, eqb→eq, eqb_refl, length, get_or}
 use Rattle.base_lists.specs.List.{all, any, all_below, tabulate, Below}
 use Rattle.base_lists.proofs.Tests.{T_false, same_test, all-at, at_all, any_at, at-any, all_below-at, at-all_below, unless-at, at-unless}
 use Rattle.base_lists.proofs.Below.{all_below-same}

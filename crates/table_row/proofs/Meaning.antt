@@ -1,5 +1,6 @@
 -- The last table of the row is the largest closed set, however the problem is read. Assumes nothing.
-use Rattle.base_lists.specs.Kit.{◌≡◌, ℕ, ◌≤◌, suc, arith}
+use Rattle.std.specs.Prelude.{◌≡◌, ◌≤◌}
+use Rattle.base_lists.specs.Kit.{ℕ, suc, arith}
 use Rattle.simulation.specs.Closed.{Relation, ◌⊆◌, LargestClosed, Row}
 use Rattle.simulation.proofs.Closed.{closed-same-set}
 use Rattle.simulation.proofs.Row.{row-largest-agree}

@@ -1,6 +1,7 @@
 -- The tables of the row, pair by pair: the first holds the pairs that agree, and each further one the pairs of the last whose steps have
 -- partners in it. So they are the row of sets of the theory, which contains every closed set. Assumes nothing.
-use Rattle.base_lists.specs.Kit.{◌↔◌, ◌&&◌, List, ℕ, suc, zero}
+use Rattle.std.specs.Prelude.{◌↔◌, ◌&&◌}
+use Rattle.base_lists.specs.Kit.{List, ℕ, suc, zero}
 use Rattle.base_lists.proofs.Tests.{both_true, both_left, both_right}
 use Rattle.simulation.specs.Closed.{Relation, ◌⊆◌, Refine, Row}
 use Rattle.simulation.proofs.Row.{row-falls}

@@ -1,5 +1,6 @@
 -- Tables of sets of parts: which pairs they hold, when two are equal, and how many pairs they have. Assumes nothing.
-use Rattle.base_lists.specs.Kit.{◌≡◌, ◌∙◌, sym, ap, refl, subst, ap₂, ◌↔◌, ⊎_elim, ◌⊎◌, inl, inr, Bool, List, [], ◌∷◌, map, ℕ, ◌≤◌, ◌<◌, ◌+◌, suc, zero, ◌^◌, not-suc-le-zero, lt_of_lt_of_le, lt_of_not-le, T, length, get_or, get_or-eq_default, length-map, ext_get_or, arith}
+use Rattle.std.specs.Prelude.{◌≡◌, ◌↔◌, ◌⊎◌, ◌∷◌, ◌≤◌, ◌<◌, ◌+◌, ◌^◌}
+use Rattle.base_lists.specs.Kit.{◌∙◌, sym, ap, refl, subst, ap₂, ⊎_elim, inl, inr, Bool, List, [], map, ℕ, suc, zero, not-suc-le-zero, lt_of_lt_of_le, lt_of_not-le, T, length, get_or, get_or-eq_default, length-map, ext_get_or, arith}
 use native.Mathlib.Decide.{dec_lt}
 use lib.Count.{ones}
 use lib.Pow.{pow_pos, pow_mono}

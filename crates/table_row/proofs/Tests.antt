@@ -1,5 +1,6 @@
 -- What the tests over labels mean, and what supports a pair. Assumes nothing.
-use Rattle.base_lists.specs.Kit.{◌≡◌, sym, refl, subst, ap₂, ◌↔◌, inl, inr, Bool, ◌&&◌, List, [], ◌∷◌, ℕ, T}
+use Rattle.std.specs.Prelude.{◌≡◌, ◌↔◌, ◌&&◌, ◌∷◌}
+use Rattle.base_lists.specs.Kit.{sym, refl, subst, ap₂, inl, inr, Bool, List, [], ℕ, T}
 use Rattle.base_lists.specs.List.{any}
 use Rattle.base_lists.proofs.Tests.{both_true, both_left, both_right}
 use Rattle.base_lists.proofs.Entries.{all-occurs, any-occurs}

@@ -1,6 +1,7 @@
 -- Problems side by side: one that asks no more has larger sets, row by row; two that ask the same have the same tables and counts.
 -- Assumes nothing.
-use Rattle.base_lists.specs.Kit.{◌≡◌, ◌∙◌, sym, ap, ap₂, fun_ext, not, List, ℕ, ◌≤◌, ◌-◌, suc, zero}
+use Rattle.std.specs.Prelude.{◌≡◌, ◌≤◌, ◌-◌}
+use Rattle.base_lists.specs.Kit.{◌∙◌, sym, ap, ap₂, fun_ext, not, List, ℕ, suc, zero}
 use Rattle.base_lists.specs.Below.{count_below}
 use Rattle.simulation.specs.Closed.{◌⊆◌}
 use Rattle.table_row.specs.Problem.{Problem, MoveOf, with_moves}

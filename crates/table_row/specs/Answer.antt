@@ -1,6 +1,7 @@
 -- The answer where every part has to occur: "If some part is left without a node, the table is all 0, kept is 0, struck equals started,
 -- and rounds count as before." So `started_of` and `rounds_of` stand as they are.
-use Rattle.base_lists.specs.Kit.{Bool, cond, List, ℕ, ◌-◌}
+use Rattle.std.specs.Prelude.{◌-◌}
+use Rattle.base_lists.specs.Kit.{Bool, cond, List, ℕ}
 use Rattle.base_lists.specs.List.{all_below, any_below, tabulate}
 use Rattle.table_row.specs.Problem.{Problem}
 use Rattle.table_row.specs.Row.{in_table, pairs, started_of, last_of}

@@ -1,6 +1,7 @@
 -- One round of striking by masks: a part stays at a node when, for each way, the set of the parts that it steps to lies within the union
 -- of the sets of the nodes that the node moves to.
-use Rattle.base_lists.specs.Kit.{Bool, ◌&&◌, List, ℕ, ◌<◌, eqb, get_or}
+use Rattle.std.specs.Prelude.{◌&&◌, ◌<◌}
+use Rattle.base_lists.specs.Kit.{Bool, List, ℕ, eqb, get_or}
 use Rattle.base_lists.specs.List.{any, tabulate, Below}
 use Rattle.base_bits.specs.Bits.{bit, number_of, subset_of, union_at}
 use Rattle.table_row.specs.Problem.{Problem}

@@ -1,6 +1,7 @@
 -- A problem of matching: all that a row of sets is computed from. It knows no kinds of parts, no directions and no file. Requirements are
 -- told apart by labels, which are of any type D.
-use Rattle.base_lists.specs.Kit.{◌≡◌, ◌⊎◌, Bool, List, [], ◌∷◌, ℕ, ◌<◌, T}
+use Rattle.std.specs.Prelude.{◌≡◌, ◌⊎◌, ◌∷◌, ◌<◌}
+use Rattle.base_lists.specs.Kit.{Bool, List, [], ℕ, T}
 use Rattle.base_lists.specs.List.{Occurs}
 
 pub record Problem (D : Type 0) : Type 0 where

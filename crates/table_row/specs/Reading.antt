@@ -1,6 +1,7 @@
 -- What a problem and its tables say: how a problem is read as an agreement, steps and moves of any kind; when one problem asks no more
 -- than another; and with which tables striking may begin.
-use Rattle.base_lists.specs.Kit.{◌≡◌, ◌↔◌, List, ℕ, ◌<◌, ◌^◌, T, length, get_or}
+use Rattle.std.specs.Prelude.{◌≡◌, ◌↔◌, ◌<◌, ◌^◌}
+use Rattle.base_lists.specs.Kit.{List, ℕ, T, length, get_or}
 use Rattle.simulation.specs.Closed.{Relation, ◌⊆◌, Closed, Occurring}
 use Rattle.table_row.specs.Problem.{Problem, Way, Agreeing, StepOf, MoveOf}
 use Rattle.table_row.specs.Row.{in_table, start_of, last_of}

@@ -1,6 +1,7 @@
 -- The row of sets of a problem, and the four counts. A set of pairs is a table with a number per node, the sum of 2^u over its parts u.
 -- proofs/ shows that the last set is the largest closed one.
-use Rattle.base_lists.specs.Kit.{Bool, false, true, ◌&&◌, not, List, [], ◌∷◌, map, ℕ, ◌-◌, suc, zero, eqb, get_or, ◌<◌}
+use Rattle.std.specs.Prelude.{◌&&◌, ◌∷◌, ◌-◌, ◌<◌}
+use Rattle.base_lists.specs.Kit.{Bool, false, true, not, List, [], map, ℕ, suc, zero, eqb, get_or}
 use Rattle.base_lists.specs.List.{all, any, tabulate, sum}
 use Rattle.base_lists.specs.Below.{count_below}
 use Rattle.base_bits.specs.Bits.{bit, number_of, size_of}

@@ -1,5 +1,6 @@
 -- Laws of the parts of a set whose links all have partners: what `surviving` keeps, and the next set of a node. Assumes nothing.
-use Rattle.base_lists.specs.Kit.{◌≡◌, ◌∙◌, sym, ap, refl, ap₂, Bool, false, true, cond, ◌&&◌, and-false, List, [], ◌∷◌, ℕ, ◌≤◌, ◌<◌, ◌+◌, suc, zero, ◌^◌, not-suc-le-zero, T, eqb, length, get_or, arith, eq-eqb, eqb-true}
+use Rattle.std.specs.Prelude.{◌≡◌, ◌&&◌, ◌∷◌, ◌≤◌, ◌<◌, ◌+◌, ◌^◌}
+use Rattle.base_lists.specs.Kit.{◌∙◌, sym, ap, refl, ap₂, Bool, false, true, cond, and-false, List, [], ℕ, suc, zero, not-suc-le-zero, T, eqb, length, get_or, arith, eq-eqb, eqb-true}
 use lib.Bits.{bit_or, or_zero_r}
 use borrow.Author.Count.{below_more}
 use Rattle.base_lists.specs.List.{all}

@@ -1,5 +1,6 @@
 -- Striking at one node, over neighbour tables and masks.
-use Rattle.base_lists.specs.Kit.{Bool, ◌&&◌, List, ℕ, eqb, get_or}
+use Rattle.std.specs.Prelude.{◌&&◌}
+use Rattle.base_lists.specs.Kit.{Bool, List, ℕ, eqb, get_or}
 use Rattle.base_lists.specs.List.{all}
 use Rattle.base_bits.specs.Bits.{bit, number_of, subset_of, union_at}
 use Rattle.graph.specs.Net.{driven, driving}

@@ -1,5 +1,6 @@
 -- What the test board is: N nodes, a link exactly where its pair was drawn, rising, no more than M, and within what a board may have. Assumes nothing.
-use Rattle.base_lists.specs.Kit.{◌≡◌, ◌∙◌, sym, ap, refl, subst, ◌↔◌, Bool, ◌&&◌, List, ℕ, ◌≤◌, ◌<◌, ◌+◌, ◌*◌, T, eqb, ltb, eqb→eq, leb, lt→ltb, le→leb, leb→le, length, get_or, arith, eq-eqb}
+use Rattle.std.specs.Prelude.{◌≡◌, ◌↔◌, ◌&&◌, ◌≤◌, ◌<◌, ◌+◌, ◌*◌}
+use Rattle.base_lists.specs.Kit.{◌∙◌, sym, ap, refl, subst, Bool, List, ℕ, T, eqb, ltb, eqb→eq, leb, lt→ltb, le→leb, leb→le, length, get_or, arith, eq-eqb}
 use Rattle.base_lists.specs.List.{all}
 use Rattle.base_lists.proofs.Tests.{both_true, both_left, both_right, true-T, at_all, any_below-at, at-any_below}
 use Rattle.graph.specs.Circuit.{HasLink}

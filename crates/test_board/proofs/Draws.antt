@@ -1,5 +1,6 @@
 -- Draws stored one after another at the front of a table. Assumes nothing.
-use Rattle.base_lists.specs.Kit.{◌≡◌, List, ◌++◌, ℕ, ◌<◌, ◌+◌, length, drop, set}
+use Rattle.std.specs.Prelude.{◌≡◌, ◌++◌, ◌<◌, ◌+◌}
+use Rattle.base_lists.specs.Kit.{List, ℕ, length, drop, set}
 use Rattle.base_lists.proofs.Tables.{filled_none, filled_more}
 use Rattle.test_board.specs.Generator.{step, draw, stepped, draws}
 

@@ -1,5 +1,6 @@
 -- Laws of the draws. Assumes nothing.
-use Rattle.base_lists.specs.Kit.{◌≡◌, ◌∙◌, sym, ap, ℕ, ◌<◌, ◌+◌, suc, zero, ◌*◌, ◌^◌, ◌/◌, add-zero, add-suc, mod-lt, add-one, length, get_or, arith}
+use Rattle.std.specs.Prelude.{◌≡◌, ◌<◌, ◌+◌, ◌*◌, ◌^◌, ◌/◌}
+use Rattle.base_lists.specs.Kit.{◌∙◌, sym, ap, ℕ, suc, zero, add-zero, add-suc, mod-lt, add-one, length, get_or, arith}
 use Rattle.base_lists.proofs.Tables.{length-tabulate, get_d_tabulate}
 use Rattle.test_board.specs.Generator.{step, draw, stepped, draws}
 

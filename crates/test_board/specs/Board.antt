@@ -1,6 +1,7 @@
 -- The test board (document 02, Ask 3): "The load is fixed by four 32-bit numbers: seed, N, M and K, with N from 1 to 512, M at most 4,096 and K
 -- from 1 to 65,536."
-use Rattle.base_lists.specs.Kit.{◌≡◌, Bool, ◌&&◌, List, ℕ, ◌≤◌, ◌<◌, ◌+◌, ◌*◌, eqb, leb, get_or}
+use Rattle.std.specs.Prelude.{◌≡◌, ◌&&◌, ◌≤◌, ◌<◌, ◌+◌, ◌*◌}
+use Rattle.base_lists.specs.Kit.{Bool, List, ℕ, eqb, leb, get_or}
 use Rattle.base_lists.specs.List.{any_below}
 use Rattle.graph.specs.Circuit.{Circuit}
 use Rattle.graph.specs.Pairs.{pair_starts, pair_ends}

@@ -1,5 +1,6 @@
 -- The numbers that a test board draws, one after another (document 02, Ask 3).
-use Rattle.base_lists.specs.Kit.{List, ℕ, ◌+◌, suc, zero, ◌*◌, ◌^◌, ◌/◌, ◌%◌}
+use Rattle.std.specs.Prelude.{◌+◌, ◌*◌, ◌^◌, ◌/◌, ◌%◌}
+use Rattle.base_lists.specs.Kit.{List, ℕ, suc, zero}
 use Rattle.base_lists.specs.List.{tabulate}
 
 -- "A step turns s into (1,664,525 times s + 1,013,904,223) mod 2^32"

@@ -1,5 +1,6 @@
 -- `barring_find::bar_circuits` meets its contract: the tables are prepared, the ball is listed, and in it the kept links are found. Assumes nothing.
-use Rattle.base_lists.specs.Kit.{◌≡◌, ◌∙◌, sym, List, ◌++◌, ℕ, ◌≤◌, length, take, length-take-le, arith, rules}
+use Rattle.std.specs.Prelude.{◌≡◌, ◌++◌, ◌≤◌}
+use Rattle.base_lists.specs.Kit.{◌∙◌, sym, List, ℕ, length, take, length-take-le, arith, rules}
 use Rattle.base_lists.proofs.Parts.{length-append-le, length-append-room, length-take-append}
 use Rattle.graph.specs.Circuit.{circuit}
 use Rattle.file_format.proofs.Accepted.{bounded-starts, bounded-ends}

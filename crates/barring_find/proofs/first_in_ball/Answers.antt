@@ -1,6 +1,7 @@
 -- `barring_find::first_in_ball` meets its contract: the nodes that the search lists are the ball, and the table has the pairs that agree at them.
 -- Assumes nothing.
-use Rattle.base_lists.specs.Kit.{◌∙◌, sym, ◌≤◌, length, length-take-le}
+use Rattle.std.specs.Prelude.{◌≤◌}
+use Rattle.base_lists.specs.Kit.{◌∙◌, sym, length, length-take-le}
 use Rattle.barring_find.proofs.Tried.{written_at}
 use Rattle.barring_find.proofs.Netted.{netted-net, netted-short, netted-list, netted-ball}
 use Rattle.barring_find.proofs.first_in_ball.Goals as goal

@@ -1,6 +1,7 @@
 -- `barring_find::least_in_ball` meets its contract: all links are tried together, and where they bar the kept ones are found and counted. Assumes
 -- nothing.
-use Rattle.base_lists.specs.Kit.{◌≡◌, ◌∙◌, sym, ap, List, ◌++◌, ℕ, length, drop, length-take-le, take_at}
+use Rattle.std.specs.Prelude.{◌≡◌, ◌++◌}
+use Rattle.base_lists.specs.Kit.{◌∙◌, sym, ap, List, ℕ, length, drop, length-take-le, take_at}
 use Rattle.base_lists.proofs.Parts.{length-take-append}
 use Rattle.barring.specs.Least.{kept_count}
 use Rattle.barring.proofs.Outcome.{around-placed, around-kept}

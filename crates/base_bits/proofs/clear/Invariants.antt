@@ -1,6 +1,7 @@
 -- `base_bits::clear` meets its contract. The loop's invariant: the entries before i are 0, and the others as they were. The measure is how
 -- many are left. Assumes nothing.
-use Rattle.base_lists.specs.Kit.{◌-◌, length}
+use Rattle.std.specs.Prelude.{◌-◌}
+use Rattle.base_lists.specs.Kit.{length}
 use Rattle.base_lists.proofs.Filling.{FilledTo}
 use Rattle.base_bits.proofs.clear.Given as goal
 

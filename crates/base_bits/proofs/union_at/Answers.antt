@@ -1,6 +1,7 @@
 -- `base_bits::union_at` meets its contract. The loop's invariant: the union so far, with the sets of the numbers that are left, is the whole
 -- union. The measure is how many are left. Assumes nothing.
-use Rattle.base_lists.specs.Kit.{◌≡◌, ◌∙◌, sym, List, ℕ, ◌≤◌, ◌<◌, ◌+◌, add-one, length, get_or, drop, drop_of_length-le, drop-cons, arith, rules}
+use Rattle.std.specs.Prelude.{◌≡◌, ◌≤◌, ◌<◌, ◌+◌}
+use Rattle.base_lists.specs.Kit.{◌∙◌, sym, List, ℕ, add-one, length, get_or, drop, drop_of_length-le, drop-cons, arith, rules}
 use lib.Bits.{bit_or, or_zero_l, or_zero_r}
 use Rattle.base_bits.specs.Bits.{union_at}
 use Rattle.base_bits.proofs.Tests.{bit_or-assoc}

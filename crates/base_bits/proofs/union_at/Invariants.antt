@@ -1,6 +1,7 @@
 -- `base_bits::union_at` meets its contract. The loop's invariant: the union so far, with the sets of the numbers that are left, is the whole
 -- union. The measure is how many are left. Assumes nothing.
-use Rattle.base_lists.specs.Kit.{◌≡◌, ◌≤◌, ◌-◌, length, drop}
+use Rattle.std.specs.Prelude.{◌≡◌, ◌≤◌, ◌-◌}
+use Rattle.base_lists.specs.Kit.{length, drop}
 use lib.Bits.{bit_or}
 use Rattle.base_bits.specs.Bits.{union_at}
 use Rattle.base_bits.proofs.union_at.Given as goal

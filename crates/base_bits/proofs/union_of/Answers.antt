@@ -1,6 +1,7 @@
 -- `base_bits::union_of` meets its contract. The loop's invariant: the union so far, with the masks of the parts that are left, is the whole union,
 -- and what is left is at most the set. The measure is what is left, as a number. Assumes nothing.
-use Rattle.base_lists.specs.Kit.{◌≡◌, ◌∙◌, sym, ap, refl, length, arith}
+use Rattle.std.specs.Prelude.{◌≡◌}
+use Rattle.base_lists.specs.Kit.{◌∙◌, sym, ap, refl, length, arith}
 use lib.Bits.{bit_or, or_zero_r}
 use Rattle.base_bits.specs.Bits.{union_over}
 use Rattle.base_bits.proofs.Members.{trailing_lt, trailing_below, and-pred-lt}

@@ -1,6 +1,6 @@
 -- `base_bits::union_of` meets its contract. The loop's invariant: the union so far, with the masks of the parts that are left, is the whole union,
 -- and what is left is at most the set. The measure is what is left, as a number. Assumes nothing.
-use Rattle.base_lists.specs.Kit.{◌≡◌, ◌≤◌}
+use Rattle.std.specs.Prelude.{◌≡◌, ◌≤◌}
 use lib.Bits.{bit_or}
 use Rattle.base_bits.specs.Bits.{union_over}
 use Rattle.base_bits.proofs.union_of.Given as goal

@@ -1,6 +1,7 @@
 -- `base_text::put_bytes` meets its contract. The loop's invariant: the word's first i bytes are written. The measure is how many are left. Assumes
 -- nothing.
-use Rattle.base_lists.specs.Kit.{◌≡◌, List, [], ◌∷◌, ◌++◌, ℕ, ◌<◌, ◌+◌, add-one, length, get_or, take, length-append, length-take, take_all, take-suc, arith}
+use Rattle.std.specs.Prelude.{◌≡◌, ◌∷◌, ◌++◌, ◌<◌, ◌+◌}
+use Rattle.base_lists.specs.Kit.{List, [], ℕ, add-one, length, get_or, take, length-append, length-take, take_all, take-suc, arith}
 use Rattle.base_text.specs.Text.{Fits}
 use Rattle.base_text.proofs.Text.{put-nothing, put_then, put_same, put-length, fits-less, fits-then}
 use Rattle.base_text.proofs.put_bytes.Goals as goal

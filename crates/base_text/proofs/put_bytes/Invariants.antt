@@ -1,6 +1,7 @@
 -- `base_text::put_bytes` meets its contract. The loop's invariant: the word's first i bytes are written. The measure is how many are left. Assumes
 -- nothing.
-use Rattle.base_lists.specs.Kit.{◌≤◌, ◌-◌, length, take}
+use Rattle.std.specs.Prelude.{◌≤◌, ◌-◌}
+use Rattle.base_lists.specs.Kit.{length, take}
 use Rattle.base_text.specs.Text.{Put}
 use Rattle.base_text.proofs.put_bytes.Given as goal
 

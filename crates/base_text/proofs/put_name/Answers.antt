@@ -1,5 +1,6 @@
 -- `base_text::put_name` meets its contract: a byte and one or two digits, or four bytes at once. Assumes nothing.
-use Rattle.base_lists.specs.Kit.{◌≡◌, ◌∙◌, sym, ap, ◌∷◌, ℕ, ◌≤◌, ◌+◌, get_or, arith}
+use Rattle.std.specs.Prelude.{◌≡◌, ◌∷◌, ◌≤◌, ◌+◌}
+use Rattle.base_lists.specs.Kit.{◌∙◌, sym, ap, ℕ, get_or, arith}
 use Rattle.base_text.specs.Text.{decimal, bytes_of_four}
 use Rattle.base_text.proofs.Text.{put_then, put_same, fits-same, name-at, name-small, name-bytes}
 use Rattle.base_text.proofs.put_name.Goals as goal

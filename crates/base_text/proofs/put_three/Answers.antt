@@ -1,5 +1,6 @@
 -- `base_text::put_three` meets its contract: one or two digits, or those of a tenth and then the last. Assumes nothing.
-use Rattle.base_lists.specs.Kit.{sym, ◌/◌, arith}
+use Rattle.std.specs.Prelude.{◌/◌}
+use Rattle.base_lists.specs.Kit.{sym, arith}
 use Rattle.base_text.specs.Text.{decimal}
 use Rattle.base_text.proofs.Text.{put_then, put_same, fits-same, fits-first, fits-then, decimal-more}
 use Rattle.base_text.proofs.put_three.Goals as goal

@@ -1,5 +1,6 @@
 -- `bounded_prepare::bound_masks` meets its contract: the two halves of the masks. Assumes nothing.
-use Rattle.base_lists.specs.Kit.{◌≡◌, ◌∙◌, sym, length, length-take-le}
+use Rattle.std.specs.Prelude.{◌≡◌}
+use Rattle.base_lists.specs.Kit.{◌∙◌, sym, length, length-take-le}
 use Rattle.bounded_prepare.proofs.Halves.{bound-masked, half, half-2}
 use Rattle.bounded_prepare.proofs.bound_masks.Goals as goal
 use Rattle.bounded_prepare.proofs.bound_masks.Goals.{After-way_masks}

@@ -1,6 +1,7 @@
 -- `bounded_prepare::keys_of` meets its contract. The loop's invariant: the first i numbers are made, and the others as they were. The measure is
 -- how many are left. Assumes nothing.
-use Rattle.base_lists.specs.Kit.{◌∙◌, ap, refl, ℕ, ◌≤◌, ◌<◌, length, get_or, length-set, arith}
+use Rattle.std.specs.Prelude.{◌≤◌, ◌<◌}
+use Rattle.base_lists.specs.Kit.{◌∙◌, ap, refl, ℕ, length, get_or, length-set, arith}
 use Rattle.base_lists.specs.List.{tabulate, Below}
 use Rattle.base_lists.proofs.Tables.{filled_none, filled-all, filled_next}
 use Rattle.bounded_strike.specs.Prepared.{keyed}

@@ -1,6 +1,7 @@
 -- `bounded_prepare::keys_of` meets its contract. The loop's invariant: the first i numbers are made, and the others as they were. The measure is
 -- how many are left. Assumes nothing.
-use Rattle.base_lists.specs.Kit.{◌≡◌, List, ◌++◌, ℕ, ◌≤◌, ◌-◌, length, get_or, drop}
+use Rattle.std.specs.Prelude.{◌≡◌, ◌++◌, ◌≤◌, ◌-◌}
+use Rattle.base_lists.specs.Kit.{List, ℕ, length, get_or, drop}
 use Rattle.base_lists.specs.List.{tabulate}
 use Rattle.bounded_strike.specs.Prepared.{key_at}
 use Rattle.bounded_prepare.proofs.keys_of.Given as goal

@@ -1,6 +1,7 @@
 -- `bounded_prepare::largest_bound` meets its contract. The loop's invariant: no bound so far is larger than `top`, which is from 1 to 4. The
 -- measure is how many are left. Assumes nothing.
-use Rattle.base_lists.specs.Kit.{◌≤◌, not-suc-le-zero, get_or, arith}
+use Rattle.std.specs.Prelude.{◌≤◌}
+use Rattle.base_lists.specs.Kit.{not-suc-le-zero, get_or, arith}
 use borrow.Author.Count.{below_more}
 use Rattle.bounded_prepare.proofs.largest_bound.Goals as goal
 use Rattle.bounded_prepare.proofs.largest_bound.Goals.{else-top-bounds, then-top-bounds}

@@ -1,5 +1,6 @@
 -- `bounded_whole::match_prepared` meets its contract: every node is listed, and the pairs of equal kinds are struck to the end. Assumes nothing.
-use Rattle.base_lists.specs.Kit.{◌≡◌, ◌∙◌, sym, ap, List, ℕ, ◌≤◌, le_trans, le_of_eq, lit≤, length, length-take-le}
+use Rattle.std.specs.Prelude.{◌≡◌, ◌≤◌}
+use Rattle.base_lists.specs.Kit.{◌∙◌, sym, ap, List, ℕ, le_trans, le_of_eq, lit≤, length, length-take-le}
 use Rattle.graph.specs.Circuit.{circuit}
 use Rattle.graph.proofs.Net.{net-of, net-few}
 use Rattle.table_row.specs.Row.{start_of}

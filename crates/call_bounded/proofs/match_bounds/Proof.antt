@@ -1,6 +1,7 @@
 -- `call_bounded::match_bounds` meets its contract: a file is refused, or the two circuits that were read are matched.
 -- Assumes nothing.
-use Rattle.base_lists.specs.Kit.{◌≡◌, sym, List, ℕ, rules}
+use Rattle.std.specs.Prelude.{◌≡◌}
+use Rattle.base_lists.specs.Kit.{sym, List, ℕ, rules}
 use Rattle.graph.specs.Circuit.{Circuit}
 use Rattle.file_format.specs.declared.Role.TheVariants.{Board}
 use Rattle.file_format.specs.Layout.{CircuitFile, in_edition}

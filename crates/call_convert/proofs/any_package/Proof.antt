@@ -1,6 +1,7 @@
 -- `call_convert::any_package` meets its contract. The loop's invariant: each package passed is 0. Assumes nothing.
 use borrow.Author.Count.{below_none, below_more}
-use Rattle.base_lists.specs.Kit.{◌≡◌, sym, ℕ, ◌≤◌, ◌<◌, ◌-◌, length, get_or, arith}
+use Rattle.std.specs.Prelude.{◌≡◌, ◌≤◌, ◌<◌, ◌-◌}
+use Rattle.base_lists.specs.Kit.{sym, ℕ, length, get_or, arith}
 use Rattle.call_convert.proofs.Packages.{lost-some, none-lost}
 use Rattle.call_convert.proofs.any_package.Statement.{statement}
 use Rattle.call_convert.proofs.any_package.Tie as tie

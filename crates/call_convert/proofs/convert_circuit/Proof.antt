@@ -1,5 +1,6 @@
 -- `call_convert::convert_circuit` meets its contract: a package would be lost, or what writing leaves is the answer. Assumes nothing.
-use Rattle.base_lists.specs.Kit.{◌≡◌, ◌∙◌, sym, ap, rules}
+use Rattle.std.specs.Prelude.{◌≡◌}
+use Rattle.base_lists.specs.Kit.{◌∙◌, sym, ap, rules}
 use Rattle.file_write.specs.declared.WriteAnswer.{WriteAnswer}
 use Rattle.call_convert.specs.Call.{convert_reply, convert_on}
 use Rattle.call_convert.proofs.Converting.{as_converted, on-lost, on-written}

@@ -1,6 +1,7 @@
 -- `call_decide::place_verdict` meets its contract: the centre is outside, or a table is short, or neither. Assumes
 -- nothing.
-use Rattle.base_lists.specs.Kit.{◌≡◌, ◌∙◌, sym, ap, Bool, false, true, cond, le-ltb, lt-ltb}
+use Rattle.std.specs.Prelude.{◌≡◌}
+use Rattle.base_lists.specs.Kit.{◌∙◌, sym, ap, Bool, false, true, cond, le-ltb, lt-ltb}
 use Rattle.file_format.specs.Reading.{verdict_of}
 use Rattle.file_format.specs.Refusals.{accept, refuse, first, centre_outside}
 use Rattle.call_decide.specs.Decide.{too_short, room_conditions}

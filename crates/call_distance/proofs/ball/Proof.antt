@@ -1,6 +1,7 @@
 -- `call_distance::ball` meets its contract: the file is refused, or the centre is, or the table, or the ball is filled
 -- in. Assumes nothing.
-use Rattle.base_lists.specs.Kit.{◌≡◌, sym, ◌≤◌, ◌<◌, length, arith, rules}
+use Rattle.std.specs.Prelude.{◌≡◌, ◌≤◌, ◌<◌}
+use Rattle.base_lists.specs.Kit.{sym, length, arith, rules}
 use Rattle.graph.specs.Circuit.{Circuit, circuit}
 use Rattle.file_format.specs.declared.Role.TheVariants.{Board}
 use Rattle.file_format.specs.Layout.{CircuitFile, in_edition}

@@ -1,5 +1,6 @@
 -- `call_merge::merge` meets its contract: the pattern is refused, or one of the two tables is short, or the pattern is merged. Assumes nothing.
-use Rattle.base_lists.specs.Kit.{◌≡◌, ◌∙◌, sym, le_trans, le_of_eq, length-take-le, arith, rules}
+use Rattle.std.specs.Prelude.{◌≡◌}
+use Rattle.base_lists.specs.Kit.{◌∙◌, sym, le_trans, le_of_eq, length-take-le, arith, rules}
 use Rattle.graph.specs.Circuit.{Circuit, circuit}
 use Rattle.file_format.specs.declared.Role.TheVariants.{Pattern}
 use Rattle.file_format.specs.Layout.{CircuitFile, in_edition}

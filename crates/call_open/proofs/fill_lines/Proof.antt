@@ -1,6 +1,7 @@
 -- `call_open::fill_lines` meets its contract: a file is refused, or no lines are left, or the whole board is matched and its components are named. Assumes
 -- nothing.
-use Rattle.base_lists.specs.Kit.{◌≡◌, ◌∙◌, sym, ◌≤◌, length, length-take-le, arith, rules}
+use Rattle.std.specs.Prelude.{◌≡◌, ◌≤◌}
+use Rattle.base_lists.specs.Kit.{◌∙◌, sym, length, length-take-le, arith, rules}
 use Rattle.file_format.specs.declared.Role.TheVariants.{Pattern}
 use Rattle.table.specs.Prepared.{tables}
 use Rattle.table.specs.Row.{both_directions}

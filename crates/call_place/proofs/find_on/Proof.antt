@@ -1,5 +1,6 @@
 -- `call_place::find_on` meets its contract: the centre or a table is refused, or the place is sought. Assumes nothing.
-use Rattle.base_lists.specs.Kit.{◌≤◌, ◌<◌, length, get_or, arith, rules}
+use Rattle.std.specs.Prelude.{◌≤◌, ◌<◌}
+use Rattle.base_lists.specs.Kit.{length, get_or, arith, rules}
 use Rattle.file_format.specs.Reading.{verdict_of}
 use Rattle.place.specs.Outcome.{place_reply}
 use Rattle.place.proofs.Find.{drawn-tabled, tabled-links}

@@ -1,6 +1,7 @@
 -- `call_session::open` meets its contract: a file is refused, or the tables are filled from the two circuits that were
 -- read. Assumes nothing.
-use Rattle.base_lists.specs.Kit.{◌≡◌, ◌∙◌, sym, length, take, length-take-le, arith, rules}
+use Rattle.std.specs.Prelude.{◌≡◌}
+use Rattle.base_lists.specs.Kit.{◌∙◌, sym, length, take, length-take-le, arith, rules}
 use Rattle.graph.specs.Circuit.{Circuit}
 use Rattle.file_format.specs.Layout.{in_edition}
 use Rattle.file_format.specs.declared.Role.TheVariants.{AnyPattern}

@@ -1,5 +1,6 @@
 -- `call_test_board::test_board` meets its contract: a number is out of its range, or the bytes are too few, or the test board is made. Assumes nothing.
-use Rattle.base_lists.specs.Kit.{◌≡◌, ◌∙◌, sym, false, true, not, ◌≤◌, ◌<◌, ◌+◌, ◌*◌, length, arith, rules, not-false, not-true, ltb-false, ltb-true}
+use Rattle.std.specs.Prelude.{◌≡◌, ◌≤◌, ◌<◌, ◌+◌, ◌*◌}
+use Rattle.base_lists.specs.Kit.{◌∙◌, sym, false, true, not, length, arith, rules, not-false, not-true, ltb-false, ltb-true}
 use Rattle.base_lists.proofs.Tests.{true-T}
 use Rattle.test_board.specs.Board.{sizes_in_range}
 use Rattle.test_board.proofs.Board.{in-range}

@@ -1,5 +1,6 @@
 -- `file_bounds::all_within` meets its contract. The loop's invariant: each bound passed is from 1 to 4. Assumes nothing.
-use Rattle.base_lists.specs.Kit.{sym, ℕ, ◌≤◌, ◌<◌, ◌-◌, length, arith}
+use Rattle.std.specs.Prelude.{◌≤◌, ◌<◌, ◌-◌}
+use Rattle.base_lists.specs.Kit.{sym, ℕ, length, arith}
 use borrow.Author.Count.{below_none, below_more}
 use Rattle.file_bounds.proofs.Fit.{Fits, at-fit, not-fit}
 use Rattle.file_bounds.proofs.all_within.Statement.{statement}

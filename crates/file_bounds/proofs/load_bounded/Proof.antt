@@ -1,5 +1,6 @@
 -- `file_bounds::load_bounded` meets its contract: 1 to 3 by the size, then the file before the bounds, then the bounds. Assumes nothing.
-use Rattle.base_lists.specs.Kit.{◌≡◌, ◌∙◌, sym, ap, length-take-le, arith, rules}
+use Rattle.std.specs.Prelude.{◌≡◌}
+use Rattle.base_lists.specs.Kit.{◌∙◌, sym, ap, length-take-le, arith, rules}
 use Rattle.file_format.specs.declared.Role.TheVariants.{AnyPattern}
 use Rattle.file_format.specs.Layout.{field}
 use Rattle.file_format.proofs.Refusals.{turned, range-orders}

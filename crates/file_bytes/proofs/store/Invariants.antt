@@ -1,5 +1,6 @@
 -- `file_bytes::store` meets its contract. The loop's invariant: the numbers passed are stored. Assumes nothing.
-use Rattle.base_lists.specs.Kit.{◌≡◌, ◌≤◌, ◌-◌, length, take}
+use Rattle.std.specs.Prelude.{◌≡◌, ◌≤◌, ◌-◌}
+use Rattle.base_lists.specs.Kit.{length, take}
 use Rattle.file_bytes.specs.Bytes.{stored}
 use Rattle.file_bytes.proofs.store.Given as goal
 

@@ -1,5 +1,6 @@
 -- `file_check::circuit_number` meets its contract: each return rewrites with the tests that led there. Assumes nothing.
-use Rattle.base_lists.specs.Kit.{◌≡◌, ◌∙◌, sym, true, length, eq-eqb, ne_eqb}
+use Rattle.std.specs.Prelude.{◌≡◌}
+use Rattle.base_lists.specs.Kit.{◌∙◌, sym, true, length, eq-eqb, ne_eqb}
 use Rattle.base_lists.proofs.Tests.{true-T}
 use Rattle.file_format.specs.Role.{in_range}
 use Rattle.file_check.specs.Circuit.{circuit_number}

@@ -1,5 +1,6 @@
 -- `file_fields::package_at` meets its contract: there is no such field, or it is the i-th. Assumes nothing.
-use Rattle.base_lists.specs.Kit.{◌∙◌, sym, ◌≤◌, length, get_or-eq_default, arith}
+use Rattle.std.specs.Prelude.{◌≤◌}
+use Rattle.base_lists.specs.Kit.{◌∙◌, sym, length, get_or-eq_default, arith}
 use Rattle.file_format.specs.Layout.{fields}
 use Rattle.file_format.proofs.Fields.{length_fields, get_or-fields}
 use Rattle.file_fields.proofs.package_at.Goals as goal

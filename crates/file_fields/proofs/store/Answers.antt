@@ -1,5 +1,6 @@
 
-use Rattle.base_lists.specs.Kit.{◌≡◌, refl, subst, ◌++◌, ℕ, drop, length-set, arith}
+use Rattle.std.specs.Prelude.{◌≡◌, ◌++◌}
+use Rattle.base_lists.specs.Kit.{refl, subst, ℕ, drop, length-set, arith}
 use Rattle.file_format.proofs.Fields.{stored-none, stored_more}
 use Rattle.file_format.specs.Layout.{fields}
 use Rattle.file_fields.proofs.store.Goals as goal

@@ -1,5 +1,6 @@
 
-use Rattle.base_lists.specs.Kit.{◌≡◌, ◌++◌, ◌≤◌, ◌-◌, length, drop}
+use Rattle.std.specs.Prelude.{◌≡◌, ◌++◌, ◌≤◌, ◌-◌}
+use Rattle.base_lists.specs.Kit.{length, drop}
 use Rattle.file_format.specs.Layout.{fields}
 use Rattle.file_fields.proofs.store.Given as goal
 

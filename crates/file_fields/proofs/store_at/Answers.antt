@@ -1,5 +1,6 @@
 -- `file_fields::store_at` meets its contract. Assumes nothing.
-use Rattle.base_lists.specs.Kit.{◌∙◌, ap, List, ◌++◌, ℕ, drop}
+use Rattle.std.specs.Prelude.{◌++◌}
+use Rattle.base_lists.specs.Kit.{◌∙◌, ap, List, ℕ, drop}
 use Rattle.file_fields.proofs.store_at.Goals as goal
 
 pub returns : goal.returns

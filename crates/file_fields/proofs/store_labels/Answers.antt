@@ -1,5 +1,6 @@
 -- `file_fields::store_labels` meets its contract. The loop's invariant: the labels of the nodes passed stand at the front. Assumes nothing.
-use Rattle.base_lists.specs.Kit.{◌≡◌, ◌∙◌, sym, refl, subst, ap₂, List, ◌++◌, ℕ, ◌<◌, ◌+◌, ◌*◌, get_or, drop, length-set, arith}
+use Rattle.std.specs.Prelude.{◌≡◌, ◌++◌, ◌<◌, ◌+◌, ◌*◌}
+use Rattle.base_lists.specs.Kit.{◌∙◌, sym, refl, subst, ap₂, List, ℕ, get_or, drop, length-set, arith}
 use Rattle.base_lists.specs.List.{tabulate}
 use Rattle.base_lists.proofs.Tables.{filled_none, filled_more}
 use Rattle.file_format.proofs.Fields.{length_fields, get_or-fields}

@@ -1,5 +1,6 @@
 -- `file_fields::store_labels` meets its contract. The loop's invariant: the labels of the nodes passed stand at the front. Assumes nothing.
-use Rattle.base_lists.specs.Kit.{◌≡◌, List, ◌++◌, ℕ, ◌≤◌, ◌-◌, length, get_or, drop}
+use Rattle.std.specs.Prelude.{◌≡◌, ◌++◌, ◌≤◌, ◌-◌}
+use Rattle.base_lists.specs.Kit.{List, ℕ, length, get_or, drop}
 use Rattle.base_lists.specs.List.{tabulate}
 use Rattle.file_format.specs.Label.{label}
 use Rattle.file_format.specs.Layout.{fields}

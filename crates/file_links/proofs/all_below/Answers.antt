@@ -1,5 +1,6 @@
 -- `file_links::all_below` meets its contract. The loop's invariant: one of the numbers passed is the greatest of them. Assumes nothing.
-use Rattle.base_lists.specs.Kit.{◌≡◌, sym, subst, ℕ, ◌+◌, length, arith}
+use Rattle.std.specs.Prelude.{◌≡◌, ◌+◌}
+use Rattle.base_lists.specs.Kit.{sym, subst, ℕ, length, arith}
 use Rattle.file_links.proofs.LinkTests.{Greatest, greatest-one, greatest-next, greatest-stays, greatest-all, all-below}
 use Rattle.file_links.proofs.all_below.Goals as goal
 use Rattle.file_links.proofs.all_below.Goals.{else-most-next, then-most-next}

@@ -1,5 +1,6 @@
 -- `file_links::all_below` meets its contract. The loop's invariant: one of the numbers passed is the greatest of them. Assumes nothing.
-use Rattle.base_lists.specs.Kit.{◌≤◌, ◌-◌, length}
+use Rattle.std.specs.Prelude.{◌≤◌, ◌-◌}
+use Rattle.base_lists.specs.Kit.{length}
 use Rattle.file_links.proofs.LinkTests.{Greatest}
 use Rattle.file_links.proofs.all_below.Given as goal
 

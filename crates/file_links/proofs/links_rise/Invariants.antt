@@ -1,5 +1,6 @@
 -- `file_links::links_rise` meets its contract. The loop's invariant: of the links passed each number is below the next one's. Assumes nothing.
-use Rattle.base_lists.specs.Kit.{◌-◌, length}
+use Rattle.std.specs.Prelude.{◌-◌}
+use Rattle.base_lists.specs.Kit.{length}
 use Rattle.file_links.proofs.LinkTests.{Rose}
 use Rattle.file_links.proofs.links_rise.Given as goal
 

@@ -1,5 +1,6 @@
 -- `file_links::order_number` meets its contract: each return rewrites with the tests that led there. Assumes nothing.
-use Rattle.base_lists.specs.Kit.{◌≡◌, ◌∙◌, sym, arith}
+use Rattle.std.specs.Prelude.{◌≡◌}
+use Rattle.base_lists.specs.Kit.{◌∙◌, sym, arith}
 use Rattle.file_format.specs.Links.{rising}
 use Rattle.file_format.proofs.Packed.{numbers-rise}
 use Rattle.file_format.proofs.Refusals.{order-starts, order-ends, order-falls, order-rises}

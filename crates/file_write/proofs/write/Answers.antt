@@ -1,5 +1,6 @@
 -- `file_write::write` meets its contract: the call is refused, is short of room, or fills the file in. Assumes nothing.
-use Rattle.base_lists.specs.Kit.{◌≡◌, ◌∙◌, sym, ap, ◌≤◌, length, length-take-le, arith}
+use Rattle.std.specs.Prelude.{◌≡◌, ◌≤◌}
+use Rattle.base_lists.specs.Kit.{◌∙◌, sym, ap, length, length-take-le, arith}
 use Rattle.file_format.specs.Refusals.{first, accept}
 use Rattle.file_format.proofs.Fields.{package-count-le}
 use Rattle.file_format.proofs.Refusals.{turned, by_number, number-turned, number-accept, range-bounds}

@@ -1,6 +1,7 @@
 -- `finder_pieces::print_pieces` meets its contract, and ends. The loop's invariant: the next piece starts at an item of the report, and as many centres
 -- before it have a place as are counted. The measure is how many items are left. Assumes nothing.
-use Rattle.base_lists.specs.Kit.{◌≡◌, ◌∙◌, sym, refl, ◌≤◌, ◌-◌, zero-le, length, length-take-le, arith, rules, not-false, not-true}
+use Rattle.std.specs.Prelude.{◌≡◌, ◌≤◌, ◌-◌}
+use Rattle.base_lists.specs.Kit.{◌∙◌, sym, refl, zero-le, length, length-take-le, arith, rules, not-false, not-true}
 use Rattle.file_format.specs.Layout.{first_edition}
 use Rattle.table.specs.Prepared.{tables}
 use Rattle.report.specs.Lines.{longest_line}

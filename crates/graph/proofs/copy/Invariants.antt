@@ -1,6 +1,7 @@
 -- `graph::copy` meets its contract. The loop's invariant: the first entries are copied, and the others as they were. The
 -- measure is how many are left. Assumes nothing.
-use Rattle.base_lists.specs.Kit.{◌≤◌, ◌-◌, length, get_or}
+use Rattle.std.specs.Prelude.{◌≤◌, ◌-◌}
+use Rattle.base_lists.specs.Kit.{length, get_or}
 use Rattle.base_lists.proofs.Filling.{FilledTo}
 use Rattle.graph.proofs.copy.Given as goal
 

@@ -1,6 +1,7 @@
 -- `graph::fill` meets its contract. The loop's invariant: the entries before i are x, and the others as they were. The measure is how
 -- many are left. Assumes nothing.
-use Rattle.base_lists.specs.Kit.{◌-◌, length}
+use Rattle.std.specs.Prelude.{◌-◌}
+use Rattle.base_lists.specs.Kit.{length}
 use Rattle.base_lists.proofs.Filling.{FilledTo}
 use Rattle.graph.proofs.fill.Given as goal
 

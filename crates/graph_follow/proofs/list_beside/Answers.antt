@@ -1,6 +1,7 @@
 -- `graph_follow::list_beside` meets its contract. The loop's invariant: from the state that the tables stand for, the nodes that are left lead to the
 -- state that all of them lead to. The measure is how many are left. Assumes nothing.
-use Rattle.base_lists.specs.Kit.{◌∙◌, sym, refl, ◌<◌, length, get_or, arith}
+use Rattle.std.specs.Prelude.{◌<◌}
+use Rattle.base_lists.specs.Kit.{◌∙◌, sym, refl, length, get_or, arith}
 use Rattle.base_lists.specs.List.{Below}
 use Rattle.graph_follow.specs.Follow.{nodes_beside}
 use Rattle.graph.proofs.BfsSteps.{level-next, level-end}

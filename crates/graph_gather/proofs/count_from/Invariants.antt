@@ -1,6 +1,7 @@
 -- `graph_gather::count_from` meets its contract. The loop's invariant: so many of the first i nodes have the number. The measure is how many are left.
 -- Assumes nothing.
-use Rattle.base_lists.specs.Kit.{◌≡◌, ◌≤◌, ◌-◌, length, take}
+use Rattle.std.specs.Prelude.{◌≡◌, ◌≤◌, ◌-◌}
+use Rattle.base_lists.specs.Kit.{length, take}
 use Rattle.graph_gather.specs.Having.{having, numbered}
 use Rattle.graph_gather.proofs.count_from.Given as goal
 

@@ -1,6 +1,7 @@
 -- `graph_gather::keep` meets its contract. The loop's invariant: of the first i nodes those with the number stand in front, and the nodes from the
 -- i-th on stand where they stood. The measure is how many are left. Assumes nothing.
-use Rattle.base_lists.specs.Kit.{◌≡◌, ◌∙◌, sym, ap, refl, subst, Bool, false, true, cond, List, [], ◌∷◌, ◌++◌, append-nil, ℕ, ◌<◌, ◌+◌, le_refl, add-zero, add-one, length, get_or, take, set, length-set, length-take-le, get_or-set_other, get_or-take, take-suc, take-suc-set, take-set-le, arith}
+use Rattle.std.specs.Prelude.{◌≡◌, ◌∷◌, ◌++◌, ◌<◌, ◌+◌}
+use Rattle.base_lists.specs.Kit.{◌∙◌, sym, ap, refl, subst, Bool, false, true, cond, List, [], append-nil, ℕ, le_refl, add-zero, add-one, length, get_or, take, set, length-set, length-take-le, get_or-set_other, get_or-take, take-suc, take-suc-set, take-set-le, arith}
 use Rattle.base_lists.specs.List.{Below}
 use Rattle.base_lists.proofs.Tests.{cond-le}
 use Rattle.graph_gather.specs.Having.{having, numbered}

@@ -1,6 +1,7 @@
 -- `graph_gather::keep` meets its contract. The loop's invariant: of the first i nodes those with the number stand in front, and the nodes from the
 -- i-th on stand where they stood. The measure is how many are left. Assumes nothing.
-use Rattle.base_lists.specs.Kit.{◌≡◌, ℕ, ◌≤◌, ◌-◌, length, get_or, take}
+use Rattle.std.specs.Prelude.{◌≡◌, ◌≤◌, ◌-◌}
+use Rattle.base_lists.specs.Kit.{ℕ, length, get_or, take}
 use Rattle.graph_gather.specs.Having.{having, numbered}
 use Rattle.graph_gather.proofs.keep.Given as goal
 

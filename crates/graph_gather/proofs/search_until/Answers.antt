@@ -1,6 +1,7 @@
 -- `graph_gather::search_until` meets its contract. The loop's invariant: the search has gone on from the centre (graph_search/proofs/Going) to the state that the
 -- tables stand for, and so many of the nodes reached have the number. The measure is how many nodes are not reached. Assumes nothing.
-use Rattle.base_lists.specs.Kit.{◌≡◌, ◌∙◌, sym, ap, List, ℕ, ◌≤◌, length, get_or, take, length-take-le, take-take, arith, eq-eqb}
+use Rattle.std.specs.Prelude.{◌≡◌, ◌≤◌}
+use Rattle.base_lists.specs.Kit.{◌∙◌, sym, ap, List, ℕ, length, get_or, take, length-take-le, take-take, arith, eq-eqb}
 use Rattle.graph.specs.Bfs.{SearchState, start, state_of}
 use Rattle.graph.proofs.BfsSteps.{tail-le, reached-length}
 use Rattle.graph.proofs.Net.{net-few}

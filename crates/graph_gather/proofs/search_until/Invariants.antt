@@ -1,6 +1,7 @@
 -- `graph_gather::search_until` meets its contract. The loop's invariant: the search has gone on from the centre (graph_search/proofs/Going) to the state that the
 -- tables stand for, and so many of the nodes reached have the number. The measure is how many nodes are not reached. Assumes nothing.
-use Rattle.base_lists.specs.Kit.{◌≡◌, ◌-◌, length, take}
+use Rattle.std.specs.Prelude.{◌≡◌, ◌-◌}
+use Rattle.base_lists.specs.Kit.{length, take}
 use Rattle.graph.specs.Bfs.{start, adjacent}
 use Rattle.graph_search.proofs.Onward.{centre}
 use Rattle.graph_search.proofs.Going.{Going}

@@ -1,5 +1,6 @@
 -- `graph_radius::all_full` meets its contract. The loop's invariant: each set passed is `full`. Assumes nothing.
-use Rattle.base_lists.specs.Kit.{◌≡◌, ℕ, ◌≤◌, ◌<◌, ◌-◌, length, get_or}
+use Rattle.std.specs.Prelude.{◌≡◌, ◌≤◌, ◌<◌, ◌-◌}
+use Rattle.base_lists.specs.Kit.{ℕ, length, get_or}
 use Rattle.graph_radius.proofs.all_full.Given as goal
 
 abbrev pub invariant-loop-u : goal.invariant-loop-u

@@ -1,5 +1,6 @@
 -- `graph_radius::every_node` meets its contract. Assumes nothing.
-use Rattle.base_lists.specs.Kit.{◌≤◌, arith}
+use Rattle.std.specs.Prelude.{◌≤◌}
+use Rattle.base_lists.specs.Kit.{arith}
 use lib.Pow.{pow_pos, pow_mono}
 use Rattle.base_bits.proofs.Digits.{one_shl}
 use Rattle.graph_radius.proofs.Spanning.{every-node}

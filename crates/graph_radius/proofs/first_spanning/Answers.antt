@@ -1,6 +1,7 @@
 -- `graph_radius::first_spanning` meets its contract. The loop's invariant: the first table has the balls at radius k, and at no smaller
 -- radius has every ball every node. The measure is how many radii are left. Assumes nothing.
-use Rattle.base_lists.specs.Kit.{◌≡◌, ◌∙◌, sym, ap, refl, subst, Bool, List, ℕ, ◌≤◌, ◌+◌, length, arith}
+use Rattle.std.specs.Prelude.{◌≡◌, ◌≤◌, ◌+◌}
+use Rattle.base_lists.specs.Kit.{◌∙◌, sym, ap, refl, subst, Bool, List, ℕ, length, arith}
 use Rattle.graph_radius.specs.Balls.{every_node, spanning, grown}
 use Rattle.graph_radius.proofs.Spanning.{Reached, reached-first, reached-next, reached-found, reached-far}
 use Rattle.graph_radius.proofs.first_spanning.Goals as goal

@@ -1,6 +1,7 @@
 -- `graph_radius::first_spanning` meets its contract. The loop's invariant: the first table has the balls at radius k, and at no smaller
 -- radius has every ball every node. The measure is how many radii are left. Assumes nothing.
-use Rattle.base_lists.specs.Kit.{◌≡◌, ◌≤◌, ◌+◌, ◌-◌, length}
+use Rattle.std.specs.Prelude.{◌≡◌, ◌≤◌, ◌+◌, ◌-◌}
+use Rattle.base_lists.specs.Kit.{length}
 use Rattle.graph_radius.specs.Balls.{every_node}
 use Rattle.graph_radius.proofs.Spanning.{Reached}
 use Rattle.graph_radius.proofs.first_spanning.Given as goal

@@ -1,6 +1,7 @@
 -- `graph_radius::grow` meets its contract. The loop's invariant: the sets before u are the new ones, and the others as they were. The
 -- measure is how many are left. Assumes nothing.
-use Rattle.base_lists.specs.Kit.{◌≡◌, ◌++◌, ◌≤◌, ◌-◌, length, get_or, drop}
+use Rattle.std.specs.Prelude.{◌≡◌, ◌++◌, ◌≤◌, ◌-◌}
+use Rattle.base_lists.specs.Kit.{length, get_or, drop}
 use Rattle.base_bits.specs.Bits.{union_over}
 use Rattle.base_lists.specs.List.{tabulate}
 use Rattle.graph_radius.proofs.grow.Given as goal

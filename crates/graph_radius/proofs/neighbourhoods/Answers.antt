@@ -1,6 +1,7 @@
 -- `graph_radius::neighbourhoods` meets its contract. The loop's invariant: the sets are the balls at radius 1 along the links passed. The
 -- measure is how many links are left. Assumes nothing.
-use Rattle.base_lists.specs.Kit.{◌≡◌, ◌∙◌, refl, ◌≤◌, ◌<◌, length, get_or, take_all, arith}
+use Rattle.std.specs.Prelude.{◌≡◌, ◌≤◌, ◌<◌}
+use Rattle.base_lists.specs.Kit.{◌∙◌, refl, length, get_or, take_all, arith}
 use Rattle.base_lists.proofs.Entries.{all-below-at}
 use Rattle.graph_radius.proofs.Balls.{balls-begin, balls-more}
 use Rattle.graph_radius.proofs.neighbourhoods.Goals as goal

@@ -1,6 +1,7 @@
 -- `graph_radius::neighbourhoods` meets its contract. The loop's invariant: the sets are the balls at radius 1 along the links passed. The
 -- measure is how many links are left. Assumes nothing.
-use Rattle.base_lists.specs.Kit.{◌≡◌, ◌≤◌, ◌-◌, length, take}
+use Rattle.std.specs.Prelude.{◌≡◌, ◌≤◌, ◌-◌}
+use Rattle.base_lists.specs.Kit.{length, take}
 use Rattle.graph_radius.specs.Balls.{balls}
 use Rattle.graph_radius.proofs.neighbourhoods.Given as goal
 

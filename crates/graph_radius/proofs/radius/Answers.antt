@@ -1,5 +1,6 @@
 -- `graph_radius::radius` meets its contract: its tables have room for 32 nodes. Assumes nothing.
-use Rattle.base_lists.specs.Kit.{◌≡◌, ◌∙◌, sym, ap, refl, subst, ℕ, ◌≤◌, T, ltb, length, take, replicate, length-take-le, arith}
+use Rattle.std.specs.Prelude.{◌≡◌, ◌≤◌}
+use Rattle.base_lists.specs.Kit.{◌∙◌, sym, ap, refl, subst, ℕ, T, ltb, length, take, replicate, length-take-le, arith}
 use Rattle.base_lists.specs.List.{all}
 use Rattle.graph.specs.Search.{radius}
 use Rattle.graph_radius.proofs.radius.Goals as goal

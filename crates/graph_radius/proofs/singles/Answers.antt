@@ -1,6 +1,7 @@
 -- `graph_radius::singles` meets its contract. The loop's invariant: the sets before u are made, and the others as they were. The measure is
 -- how many are left. Assumes nothing.
-use Rattle.base_lists.specs.Kit.{◌≡◌, ◌∙◌, refl, ◌^◌, length, length-set, arith}
+use Rattle.std.specs.Prelude.{◌≡◌, ◌^◌}
+use Rattle.base_lists.specs.Kit.{◌∙◌, refl, length, length-set, arith}
 use Rattle.base_lists.specs.List.{tabulate}
 use Rattle.base_lists.proofs.Tables.{filled_none, filled_more, stored-whole}
 use Rattle.graph_radius.proofs.singles.Goals as goal

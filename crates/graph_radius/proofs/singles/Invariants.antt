@@ -1,6 +1,7 @@
 -- `graph_radius::singles` meets its contract. The loop's invariant: the sets before u are made, and the others as they were. The measure is
 -- how many are left. Assumes nothing.
-use Rattle.base_lists.specs.Kit.{◌≡◌, ◌++◌, ◌≤◌, ◌-◌, ◌^◌, length, drop}
+use Rattle.std.specs.Prelude.{◌≡◌, ◌++◌, ◌≤◌, ◌-◌, ◌^◌}
+use Rattle.base_lists.specs.Kit.{length, drop}
 use Rattle.base_lists.specs.List.{tabulate}
 use Rattle.graph_radius.proofs.singles.Given as goal
 

@@ -1,6 +1,7 @@
 -- `graph_search::advance` meets its contract. The loop's invariant: the search has gone on (proofs/Going) to the state that the tables stand for. The measure is how
 -- many levels and how many nodes are left. Assumes nothing.
-use Rattle.base_lists.specs.Kit.{◌+◌, ◌-◌, length}
+use Rattle.std.specs.Prelude.{◌+◌, ◌-◌}
+use Rattle.base_lists.specs.Kit.{length}
 use Rattle.graph.specs.Bfs.{adjacent, state_of}
 use Rattle.graph_search.proofs.Going.{Going}
 use Rattle.graph_search.proofs.advance.Given as goal

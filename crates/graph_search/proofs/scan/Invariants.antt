@@ -1,6 +1,7 @@
 -- `graph_search::scan` meets its contract. The loop's invariant: from the state that the tables stand for, the visits that are left
 -- lead to the state that all of them lead to. The measure is how many are left. Assumes nothing.
-use Rattle.base_lists.specs.Kit.{◌≡◌, ◌≤◌, ◌-◌, length, drop}
+use Rattle.std.specs.Prelude.{◌≡◌, ◌≤◌, ◌-◌}
+use Rattle.base_lists.specs.Kit.{length, drop}
 use Rattle.graph.specs.Bfs.{scan, state_of, Searching}
 use Rattle.graph_search.proofs.scan.Given as goal
 

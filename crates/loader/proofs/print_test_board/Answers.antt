@@ -1,4 +1,5 @@
-use Rattle.base_lists.specs.Kit.{◌≡◌, ◌∙◌, sym, ap, length, take, arith}
+use Rattle.std.specs.Prelude.{◌≡◌}
+use Rattle.base_lists.specs.Kit.{◌∙◌, sym, ap, length, take, arith}
 use Rattle.base_lists.proofs.Parts.{length-take-room}
 use Rattle.call_test_board.specs.Call.{test_board_bytes}
 use Rattle.loader.specs.Printing.{Handed}

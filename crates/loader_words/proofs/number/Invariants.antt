@@ -1,5 +1,6 @@
 -- The bytes passed are digits that come to the value, and it is below 2^32.
-use Rattle.base_lists.specs.Kit.{◌≤◌, ◌-◌, length}
+use Rattle.std.specs.Prelude.{◌≤◌, ◌-◌}
+use Rattle.base_lists.specs.Kit.{length}
 use Rattle.loader_words.proofs.Digits.{Passed}
 use Rattle.loader_words.proofs.number.Given as goal
 

@@ -1,6 +1,7 @@
 -- `merge_classes::leader` meets its contract. The loop's invariant: the leader is the least of the parts that are left whose own set has
 -- u. The measure is what is left, as a number. Assumes nothing.
-use Rattle.base_lists.specs.Kit.{◌≡◌, ◌∙◌, sym, ap, ℕ, ◌<◌, zero, ◌^◌, lt_of_le_of_lt, length, get_or, arith}
+use Rattle.std.specs.Prelude.{◌≡◌, ◌<◌, ◌^◌}
+use Rattle.base_lists.specs.Kit.{◌∙◌, sym, ap, ℕ, zero, lt_of_le_of_lt, length, get_or, arith}
 use Rattle.base_lists.proofs.Tests.{true-T}
 use Rattle.base_bits.specs.Bits.{bit, first_of}
 use Rattle.base_bits.proofs.Digits.{bit_below}

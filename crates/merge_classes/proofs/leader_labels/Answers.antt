@@ -1,6 +1,7 @@
 -- `merge_classes::leader_labels` meets its contract. The loop's invariant: the kinds of those parts before u that lead their class are
 -- stored, and `next` is how many they are. The measure is how many parts are left. Assumes nothing.
-use Rattle.base_lists.specs.Kit.{◌≡◌, ◌∙◌, ap, refl, ap₂, List, ℕ, ◌≤◌, ◌+◌, length, get_or, set, length-set, sets, arith}
+use Rattle.std.specs.Prelude.{◌≡◌, ◌≤◌, ◌+◌}
+use Rattle.base_lists.specs.Kit.{◌∙◌, ap, refl, ap₂, List, ℕ, length, get_or, set, length-set, sets, arith}
 use Rattle.base_lists.specs.Below.{count_below}
 use Rattle.base_lists.proofs.Below.{count_below-le}
 use Rattle.merge.specs.Merged.{is_leader}

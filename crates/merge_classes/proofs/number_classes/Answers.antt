@@ -1,6 +1,7 @@
 -- `merge_classes::number_classes` meets its contract. The loop's invariant: the parts before u have their classes, and `next` is the
 -- number of classes that they lead. The measure is how many parts are left. Assumes nothing.
-use Rattle.base_lists.specs.Kit.{◌≡◌, ◌∙◌, ap, refl, ap₂, List, ℕ, ◌≤◌, ◌+◌, length, get_or, set, length-set, arith}
+use Rattle.std.specs.Prelude.{◌≡◌, ◌≤◌, ◌+◌}
+use Rattle.base_lists.specs.Kit.{◌∙◌, ap, refl, ap₂, List, ℕ, length, get_or, set, length-set, arith}
 use Rattle.base_lists.specs.Below.{count_below}
 use Rattle.base_lists.proofs.Below.{count_below-le}
 use Rattle.merge.specs.Merged.{is_leader}

@@ -1,6 +1,7 @@
 -- `merge_file::merge_circuit` meets its contract: its tables have room for every merged pattern, which is made and written, and writing it is not
 -- refused. Assumes nothing.
-use Rattle.base_lists.specs.Kit.{◌≡◌, sym, lit≤, length, take, rules}
+use Rattle.std.specs.Prelude.{◌≡◌}
+use Rattle.base_lists.specs.Kit.{sym, lit≤, length, take, rules}
 use Rattle.base_lists.proofs.Parts.{length-take-room}
 use Rattle.graph.specs.Circuit.{Circuit, circuit}
 use Rattle.merge.proofs.Content.{PatternContent}

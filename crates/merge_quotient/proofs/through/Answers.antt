@@ -1,6 +1,7 @@
 -- `merge_quotient::through` meets its contract: the pattern is matched on itself, its classes are numbered, and the merged pattern's kinds
 -- and links are stored. Assumes nothing.
-use Rattle.base_lists.specs.Kit.{◌≡◌, ◌∙◌, sym, le_trans, le_of_eq, length, arith}
+use Rattle.std.specs.Prelude.{◌≡◌}
+use Rattle.base_lists.specs.Kit.{◌∙◌, sym, le_trans, le_of_eq, length, arith}
 use Rattle.graph.specs.Circuit.{circuit}
 use Rattle.merge.specs.Merged.{self_table, class_count, classes}
 use Rattle.merge.proofs.Content.{PatternContent, content-bounded, content-board, most-parts}

@@ -1,6 +1,7 @@
 -- `place_around::find` meets its contract: the rounds end with the ball's table, and where the centre is left in it the search finds its
 -- component. Assumes nothing.
-use Rattle.base_lists.specs.Kit.{◌∙◌, sym, ◌<◌, length, length-take-le, arith}
+use Rattle.std.specs.Prelude.{◌<◌}
+use Rattle.base_lists.specs.Kit.{◌∙◌, sym, length, length-take-le, arith}
 use Rattle.table.specs.Row.{both_directions}
 use Rattle.graph.proofs.Net.{net-few}
 use Rattle.place.proofs.Find.{tabled-joins, tabled-net, sought-known, sought-long, sets-ready, found_nothing, found-place}

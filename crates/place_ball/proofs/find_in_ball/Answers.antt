@@ -1,7 +1,8 @@
 -- `place_ball::find_in_ball` meets its contract: the nodes that the search lists are the ball, and the pairs of
 -- equal kinds in it are a first table. What the search finds are the ball's distances, and no other search writes over
 -- them. Assumes nothing.
-use Rattle.base_lists.specs.Kit.{◌∙◌, sym, ap, List, ℕ, ◌≤◌, length, take, length-take-le, arith}
+use Rattle.std.specs.Prelude.{◌≤◌}
+use Rattle.base_lists.specs.Kit.{◌∙◌, sym, ap, List, ℕ, length, take, length-take-le, arith}
 use Rattle.graph.specs.Bfs.{bfs, adjacent, Found}
 use Rattle.graph.specs.Circuit.{circuit}
 use Rattle.graph.proofs.Net.{net-few}

@@ -1,5 +1,6 @@
 -- `place_component::component` meets its contract: the search goes on as far as there is anything to reach, and no number of nodes is enough. Assumes nothing.
-use Rattle.base_lists.specs.Kit.{◌<◌, not-le_of_lt, arith}
+use Rattle.std.specs.Prelude.{◌<◌}
+use Rattle.base_lists.specs.Kit.{not-le_of_lt, arith}
 use Rattle.graph.proofs.BfsSteps.{found, tail-le}
 use Rattle.graph.proofs.Net.{net-few}
 use Rattle.place_component.proofs.component.Goals as goal

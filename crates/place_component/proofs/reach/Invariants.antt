@@ -1,6 +1,7 @@
 -- `place_component::reach` meets its contract. It begins with the state in which only the centre is reached. The loop's invariant: the search has gone on from there
 -- (graph_search/proofs/Going) to the state that the tables stand for. The measure is how many levels and how many nodes are left. Assumes nothing.
-use Rattle.base_lists.specs.Kit.{◌+◌, ◌-◌, length}
+use Rattle.std.specs.Prelude.{◌+◌, ◌-◌}
+use Rattle.base_lists.specs.Kit.{length}
 use Rattle.graph.specs.Bfs.{start}
 use Rattle.graph_search.proofs.Onward.{centre}
 use Rattle.graph_search.proofs.Going.{Going}

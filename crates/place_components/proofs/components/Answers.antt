@@ -1,6 +1,7 @@
 -- `place_components::components` meets its contract. The loop's invariant: the nodes before f are named (`ComponentsBefore`). The measure is how many nodes are left.
 -- Assumes nothing.
-use Rattle.base_lists.specs.Kit.{◌∙◌, sym, ap, ◌≤◌, ◌<◌, length, replicate, length-take-le, arith}
+use Rattle.std.specs.Prelude.{◌≤◌, ◌<◌}
+use Rattle.base_lists.specs.Kit.{◌∙◌, sym, ap, length, replicate, length-take-le, arith}
 use Rattle.graph.specs.Search.{far}
 use Rattle.place_components.proofs.ComponentNumbers.{numbering_start, numbering-end}
 use Rattle.place_components.proofs.components.Goals as goal

@@ -1,6 +1,7 @@
 -- `place_components::components` meets its contract. The loop's invariant: the nodes before f are named (`ComponentsBefore`). The measure is how many nodes are left.
 -- Assumes nothing.
-use Rattle.base_lists.specs.Kit.{◌≡◌, ◌≤◌, ◌-◌, length}
+use Rattle.std.specs.Prelude.{◌≡◌, ◌≤◌, ◌-◌}
+use Rattle.base_lists.specs.Kit.{length}
 use Rattle.table.specs.Prepared.{tables}
 use Rattle.place.specs.Spread.{matched}
 use Rattle.place_components.specs.Components.{ComponentsBefore}

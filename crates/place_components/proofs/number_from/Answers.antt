@@ -1,6 +1,7 @@
 -- `place_components::number_from` meets its contract: nothing is left to name where the node's set is empty or it has a number, else its component is, which
 -- the search lists. Assumes nothing.
-use Rattle.base_lists.specs.Kit.{◌≡◌, ◌∙◌, sym, subst, not, ℕ, ◌≤◌, ◌<◌, ◌+◌, suc, eqb, eqb→eq, length, get_or, take, set, length-take-le, arith}
+use Rattle.std.specs.Prelude.{◌≡◌, ◌≤◌, ◌<◌, ◌+◌}
+use Rattle.base_lists.specs.Kit.{◌∙◌, sym, subst, not, ℕ, suc, eqb, eqb→eq, length, get_or, take, set, length-take-le, arith}
 use Rattle.base_lists.proofs.Tests.{both_right, true-T}
 use Rattle.graph.specs.Search.{far}
 use Rattle.graph.proofs.Net.{net-few}

@@ -1,6 +1,7 @@
 -- `place_components::store_each` meets its contract. The loop's invariant: the entries that are left to set lead to the whole. The measure is how many
 -- are left. Assumes nothing.
-use Rattle.base_lists.specs.Kit.{◌≡◌, ◌∙◌, refl, List, ℕ, ◌<◌, ◌+◌, add-one, length, get_or, drop, set, length-set, drop_of_length-le, drop-cons, arith}
+use Rattle.std.specs.Prelude.{◌≡◌, ◌<◌, ◌+◌}
+use Rattle.base_lists.specs.Kit.{◌∙◌, refl, List, ℕ, add-one, length, get_or, drop, set, length-set, drop_of_length-le, drop-cons, arith}
 use Rattle.base_lists.specs.List.{Below}
 use Rattle.table.specs.Fill.{fill_at}
 use Rattle.place_components.proofs.store_each.Goals as goal

@@ -1,6 +1,7 @@
 -- `place_components::store_each` meets its contract. The loop's invariant: the entries that are left to set lead to the whole. The measure is how many
 -- are left. Assumes nothing.
-use Rattle.base_lists.specs.Kit.{◌≡◌, ◌≤◌, ◌-◌, length, drop}
+use Rattle.std.specs.Prelude.{◌≡◌, ◌≤◌, ◌-◌}
+use Rattle.base_lists.specs.Kit.{length, drop}
 use Rattle.table.specs.Fill.{fill_at}
 use Rattle.place_components.proofs.store_each.Given as goal
 

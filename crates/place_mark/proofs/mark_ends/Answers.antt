@@ -1,6 +1,7 @@
 -- `place_mark::mark_ends` meets its contract. The loop's invariant: the bytes before k are marked, and the others as they were. The measure is
 -- how many are left. Assumes nothing.
-use Rattle.base_lists.specs.Kit.{◌≡◌, ◌∙◌, refl, subst, ◌++◌, ℕ, ◌<◌, length, get_or, drop, length-set, arith}
+use Rattle.std.specs.Prelude.{◌≡◌, ◌++◌, ◌<◌}
+use Rattle.base_lists.specs.Kit.{◌∙◌, refl, subst, ℕ, length, get_or, drop, length-set, arith}
 use Rattle.base_lists.specs.List.{tabulate, Below}
 use Rattle.base_lists.proofs.Tables.{filled_none, filled_more, stored-whole, filled-rest}
 use Rattle.place.specs.Bytes.{marked_ends}

@@ -1,6 +1,7 @@
 -- `place_mark::mark_ends` meets its contract. The loop's invariant: the bytes before k are marked, and the others as they were. The measure is
 -- how many are left. Assumes nothing.
-use Rattle.base_lists.specs.Kit.{◌≡◌, cond, List, ◌++◌, ℕ, ◌≤◌, ◌-◌, length, get_or, drop}
+use Rattle.std.specs.Prelude.{◌≡◌, ◌++◌, ◌≤◌, ◌-◌}
+use Rattle.base_lists.specs.Kit.{cond, List, ℕ, length, get_or, drop}
 use Rattle.base_lists.specs.List.{tabulate}
 use Rattle.base_bits.specs.Bits.{intersects}
 use Rattle.place_mark.proofs.mark_ends.Given as goal

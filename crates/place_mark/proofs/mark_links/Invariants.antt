@@ -1,6 +1,7 @@
 -- `place_mark::mark_links` meets its contract. The loop's invariant: marking the links of the nodes that are left leads to the bytes with all of
 -- them. The measure is how many are left. Assumes nothing.
-use Rattle.base_lists.specs.Kit.{◌≡◌, ◌≤◌, ◌-◌, length, drop}
+use Rattle.std.specs.Prelude.{◌≡◌, ◌≤◌, ◌-◌}
+use Rattle.base_lists.specs.Kit.{length, drop}
 use Rattle.table.specs.Prepared.{tables}
 use Rattle.place.specs.Bytes.{mark_starts}
 use Rattle.place_mark.proofs.mark_links.Given as goal

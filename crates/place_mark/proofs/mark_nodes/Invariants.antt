@@ -1,6 +1,7 @@
 -- `place_mark::mark_nodes` meets its contract. The loop's invariant: writing at the nodes that are left leads to the table with all of them. The
 -- measure is how many are left. Assumes nothing.
-use Rattle.base_lists.specs.Kit.{◌≡◌, ◌≤◌, ◌-◌, length, drop}
+use Rattle.std.specs.Prelude.{◌≡◌, ◌≤◌, ◌-◌}
+use Rattle.base_lists.specs.Kit.{length, drop}
 use Rattle.table.specs.Fill.{fill_at}
 use Rattle.place_mark.proofs.mark_nodes.Given as goal
 

@@ -1,5 +1,6 @@
 -- `place_mark::mark_start` meets its contract: the node's links are the stretch of the bytes between its two offsets. Assumes nothing.
-use Rattle.base_lists.specs.Kit.{◌≡◌, sym, ◌≤◌, ◌+◌, ◌-◌, length, get_or, drop, length-drop, length-take-le, arith}
+use Rattle.std.specs.Prelude.{◌≡◌, ◌≤◌, ◌+◌, ◌-◌}
+use Rattle.base_lists.specs.Kit.{sym, length, get_or, drop, length-drop, length-take-le, arith}
 use Rattle.graph_neighbours.specs.Lookup.{neighbours_in}
 use Rattle.graph_neighbours.proofs.Lookup.{neighbours-below}
 use Rattle.graph.proofs.Net.{net-few}

@@ -1,6 +1,7 @@
 -- `proposal_check::fills` meets its contract: the place is found in the board's own links, and compared with what is
 -- marked. Assumes nothing.
-use Rattle.base_lists.specs.Kit.{◌≡◌, ◌∙◌, sym, subst, ℕ, length, length-take-le, rules, not-false, not-true}
+use Rattle.std.specs.Prelude.{◌≡◌}
+use Rattle.base_lists.specs.Kit.{◌∙◌, sym, subst, ℕ, length, length-take-le, rules, not-false, not-true}
 use Rattle.base_lists.specs.List.{Below}
 use Rattle.table.specs.Prepared.{succ_of}
 use Rattle.proposal_check.proofs.Searched.{cut-room, cut-long, cut-row, cut-links}

@@ -1,6 +1,7 @@
 -- `proposal_check::find_joined` meets its contract: the nodes that the search lists are all that links join to the
 -- centre, and the pairs of equal kinds among them are a first table. Assumes nothing.
-use Rattle.base_lists.specs.Kit.{◌∙◌, sym, List, ℕ, ◌≤◌, length, take, length-take-le, rules}
+use Rattle.std.specs.Prelude.{◌≤◌}
+use Rattle.base_lists.specs.Kit.{◌∙◌, sym, List, ℕ, length, take, length-take-le, rules}
 use Rattle.graph.specs.Bfs.{bfs, adjacent, Found}
 use Rattle.graph.specs.Circuit.{circuit}
 use Rattle.table.specs.Prepared.{tables, Tables}

@@ -1,5 +1,6 @@
 -- `proposal_check::near` meets its contract: the search reaches the nodes of the ball, and no other. Assumes nothing.
-use Rattle.base_lists.specs.Kit.{◌≡◌, ◌∙◌, sym, ap, refl, List, ℕ, ◌<◌, length, length-take-le, rules}
+use Rattle.std.specs.Prelude.{◌≡◌, ◌<◌}
+use Rattle.base_lists.specs.Kit.{◌∙◌, sym, ap, refl, List, ℕ, length, length-take-le, rules}
 use Rattle.base_lists.proofs.Parts.{length-take-for}
 use Rattle.graph.specs.Net.{Net}
 use Rattle.graph.proofs.Net.{net-of}

@@ -1,6 +1,7 @@
 -- `report_locate::holds` meets its contract: the component is reached along matching links; or those of its nodes that the ball has are gathered, all of them
 -- where they are as many as it has. Assumes nothing.
-use Rattle.base_lists.specs.Kit.{◌≡◌, ◌∙◌, sym, ap, length, length-take-le, arith, eqb-true, eqb-false}
+use Rattle.std.specs.Prelude.{◌≡◌}
+use Rattle.base_lists.specs.Kit.{◌∙◌, sym, ap, length, length-take-le, arith, eqb-true, eqb-false}
 use Rattle.base_lists.proofs.Tests.{false-T}
 use Rattle.graph.specs.Bfs.{state_of}
 use Rattle.place_components.proofs.ComponentNumbers.{match-ready}

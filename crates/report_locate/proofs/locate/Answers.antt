@@ -1,6 +1,7 @@
 -- `report_locate::locate` meets its contract: the place is the component where the ball holds it; else the whole board's sets at those of its nodes that the
 -- ball has are a table to begin with. Assumes nothing.
-use Rattle.base_lists.specs.Kit.{◌≡◌, ◌∙◌, sym, ap, List, ◌++◌, append-nil, ℕ, ◌≤◌, length, take, drop, drop_of_length-le, length-take-le, arith}
+use Rattle.std.specs.Prelude.{◌≡◌, ◌++◌, ◌≤◌}
+use Rattle.base_lists.specs.Kit.{◌∙◌, sym, ap, List, append-nil, ℕ, length, take, drop, drop_of_length-le, length-take-le, arith}
 use Rattle.graph.specs.Circuit.{Circuit}
 use Rattle.table.specs.Fill.{NodeList}
 use Rattle.table.specs.Prepared.{tables}

@@ -1,5 +1,6 @@
 -- `report_locate::put_new` meets its contract: nothing where there is no place around the centre, else the line of the place. Assumes nothing.
-use Rattle.base_lists.specs.Kit.{◌≡◌, ◌∙◌, sym, ◌≤◌, length, length-take-le, arith}
+use Rattle.std.specs.Prelude.{◌≡◌, ◌≤◌}
+use Rattle.base_lists.specs.Kit.{◌∙◌, sym, length, length-take-le, arith}
 use Rattle.base_text.proofs.Text.{put-nothing, put_same, fits-same}
 use Rattle.graph.specs.Circuit.{Circuit}
 use Rattle.table.specs.Prepared.{tables}

@@ -1,5 +1,6 @@
 -- `report_texts::head_bytes` meets its contract: a number below 1,000 has one digit, two or three. Assumes nothing.
-use Rattle.base_lists.specs.Kit.{◌≡◌, ◌∙◌, ap, ℕ, ◌≤◌, ◌<◌, ◌+◌, ◌/◌, length, length-append, arith}
+use Rattle.std.specs.Prelude.{◌≡◌, ◌≤◌, ◌<◌, ◌+◌, ◌/◌}
+use Rattle.base_lists.specs.Kit.{◌∙◌, ap, ℕ, length, length-append, arith}
 use Rattle.base_text.specs.Text.{bytes, decimal}
 use Rattle.base_text.proofs.Text.{decimal-two, decimal-more, length-digit}
 use Rattle.report_texts.specs.Texts.{head_text}

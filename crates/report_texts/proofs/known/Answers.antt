@@ -1,5 +1,6 @@
 -- `report_texts::known` meets its contract. Assumes nothing.
-use Rattle.base_lists.specs.Kit.{◌+◌, arith}
+use Rattle.std.specs.Prelude.{◌+◌}
+use Rattle.base_lists.specs.Kit.{arith}
 use Rattle.report_texts.proofs.known.Goals as goal
 
 pub returns-then-not-all : goal.returns-then-not-all

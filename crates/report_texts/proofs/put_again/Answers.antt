@@ -1,5 +1,6 @@
 -- `report_texts::put_again` meets its contract: the head, and then the text, which the head leaves where it stands. Assumes nothing.
-use Rattle.base_lists.specs.Kit.{◌≤◌, ◌+◌, ◌-◌, length, length-append, arith}
+use Rattle.std.specs.Prelude.{◌≤◌, ◌+◌, ◌-◌}
+use Rattle.base_lists.specs.Kit.{length, length-append, arith}
 use Rattle.base_lists.specs.List.{part}
 use Rattle.base_lists.proofs.Parts.{length_part}
 use Rattle.base_text.proofs.Text.{put_then, put_same, put-length, fits-first}

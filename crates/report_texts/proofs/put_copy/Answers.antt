@@ -1,5 +1,6 @@
 -- `report_texts::put_copy` meets its contract. The loop's invariant: the bytes before the i-th are put once more. The measure is how many are left. Assumes nothing.
-use Rattle.base_lists.specs.Kit.{◌≡◌, ◌∙◌, ap, [], ◌∷◌, ◌++◌, ℕ, ◌<◌, ◌-◌, length, get_or, arith, rules}
+use Rattle.std.specs.Prelude.{◌≡◌, ◌∷◌, ◌++◌, ◌<◌, ◌-◌}
+use Rattle.base_lists.specs.Kit.{◌∙◌, ap, [], ℕ, length, get_or, arith, rules}
 use Rattle.base_lists.specs.List.{part}
 use Rattle.base_lists.proofs.Parts.{part_none, part-more}
 use Rattle.base_text.proofs.Text.{put_one, put-nothing, put_then, put_same, put-length}

@@ -1,5 +1,5 @@
 -- `report_texts::put_copy` meets its contract. The loop's invariant: the bytes before the i-th are put once more. The measure is how many are left. Assumes nothing.
-use Rattle.base_lists.specs.Kit.{◌≡◌, ◌≤◌, ◌+◌, ◌-◌}
+use Rattle.std.specs.Prelude.{◌≡◌, ◌≤◌, ◌+◌, ◌-◌}
 use Rattle.base_lists.specs.List.{part}
 use Rattle.base_text.specs.Text.{Put}
 use Rattle.report_texts.proofs.put_copy.Given as goal

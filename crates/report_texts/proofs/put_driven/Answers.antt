@@ -1,6 +1,7 @@
 -- `report_texts::put_driven` meets its contract. The loop's invariant: the links to the first i nodes of the list are put. The measure is how
 -- many are left. Assumes nothing.
-use Rattle.base_lists.specs.Kit.{◌≡◌, ap, ℕ, ◌<◌, length, arith}
+use Rattle.std.specs.Prelude.{◌≡◌, ◌<◌}
+use Rattle.base_lists.specs.Kit.{ap, ℕ, length, arith}
 use Rattle.base_lists.specs.Below.{concat_below}
 use Rattle.base_text.proofs.Text.{put-nothing, put_then, put_same, put-length, fits-then}
 use Rattle.base_lists.specs.List.{Below}

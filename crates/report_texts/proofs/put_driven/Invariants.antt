@@ -1,6 +1,7 @@
 -- `report_texts::put_driven` meets its contract. The loop's invariant: the links to the first i nodes of the list are put. The measure is how
 -- many are left. Assumes nothing.
-use Rattle.base_lists.specs.Kit.{List, ℕ, ◌≤◌, ◌-◌, length, get_or}
+use Rattle.std.specs.Prelude.{◌≤◌, ◌-◌}
+use Rattle.base_lists.specs.Kit.{List, ℕ, length, get_or}
 use Rattle.base_lists.specs.Below.{concat_below}
 use Rattle.base_text.specs.Text.{Put}
 use Rattle.report_texts.specs.Texts.{link_text}

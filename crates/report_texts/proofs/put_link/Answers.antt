@@ -1,5 +1,6 @@
 -- `report_texts::put_link` meets its contract: the start after a space, and the end after a hyphen. Assumes nothing.
-use Rattle.base_lists.specs.Kit.{◌≡◌, ◌∙◌, sym, ◌++◌, ◌≤◌, ◌+◌, length, arith}
+use Rattle.std.specs.Prelude.{◌≡◌, ◌++◌, ◌≤◌, ◌+◌}
+use Rattle.base_lists.specs.Kit.{◌∙◌, sym, length, arith}
 use Rattle.base_text.specs.Text.{bytes, decimal}
 use Rattle.base_text.proofs.Text.{put-nothing, put_then, put_same, put-length, fits-same}
 use Rattle.report_texts.specs.Texts.{link_text}

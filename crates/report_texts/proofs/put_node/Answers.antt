@@ -1,5 +1,6 @@
 -- `report_texts::put_node` meets its contract: the node after a space. Assumes nothing.
-use Rattle.base_lists.specs.Kit.{◌≡◌, ◌∙◌, sym, ◌++◌, arith}
+use Rattle.std.specs.Prelude.{◌≡◌, ◌++◌}
+use Rattle.base_lists.specs.Kit.{◌∙◌, sym, arith}
 use Rattle.base_text.specs.Text.{bytes, decimal}
 use Rattle.base_text.proofs.Text.{put-nothing, put_same, fits-same}
 use Rattle.report_texts.specs.Texts.{node_text}

@@ -1,5 +1,6 @@
 -- `session_cut::cut` meets its contract: no link is left at the place, or it is taken out and striking goes on. Assumes nothing.
-use Rattle.base_lists.specs.Kit.{◌≡◌, ◌∙◌, sym, subst, ◌++◌, ℕ, ◌≤◌, length, get_or, take, drop, length-take-le, arith, rules}
+use Rattle.std.specs.Prelude.{◌≡◌, ◌++◌, ◌≤◌}
+use Rattle.base_lists.specs.Kit.{◌∙◌, sym, subst, ℕ, length, get_or, take, drop, length-take-le, arith, rules}
 use Rattle.session.specs.State.{state}
 use Rattle.session.specs.Tables.{nodes_in, CutMade}
 use Rattle.session.proofs.Tables.{bounded-le}

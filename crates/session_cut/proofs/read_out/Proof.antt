@@ -1,5 +1,6 @@
 -- `session_cut::read_out` meets its contract. Assumes nothing.
-use Rattle.base_lists.specs.Kit.{sym, ◌≤◌, length, get_or, length-take-le, arith, rules}
+use Rattle.std.specs.Prelude.{◌≤◌}
+use Rattle.base_lists.specs.Kit.{sym, length, get_or, length-take-le, arith, rules}
 use Rattle.session.proofs.Tables.{bounded-le}
 use Rattle.session_cut.proofs.Out.{short-made, copied-made}
 use Rattle.session_cut.proofs.read_out.Statement.{statement}

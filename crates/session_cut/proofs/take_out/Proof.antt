@@ -1,5 +1,6 @@
 -- `session_cut::take_out` meets its contract. Assumes nothing.
-use Rattle.base_lists.specs.Kit.{sym, subst, ap₂, ℕ, ◌≤◌, ◌<◌, ◌+◌, length-set, arith, rules}
+use Rattle.std.specs.Prelude.{◌≤◌, ◌<◌, ◌+◌}
+use Rattle.base_lists.specs.Kit.{sym, subst, ap₂, ℕ, length-set, arith, rules}
 use Rattle.base_lists.proofs.Entries.{get_d_any}
 use Rattle.graph.specs.Search.{far}
 use Rattle.session.specs.State.{ends_without}

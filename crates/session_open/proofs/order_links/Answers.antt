@@ -1,5 +1,6 @@
 -- `session_open::order_links` meets its contract: the numbers are listed, and grouped by the links' starts and by their ends. Assumes nothing.
-use Rattle.base_lists.specs.Kit.{◌≡◌, ◌∙◌, sym, ap, length, take, drop, length-take-le, take_at, arith}
+use Rattle.std.specs.Prelude.{◌≡◌}
+use Rattle.base_lists.specs.Kit.{◌∙◌, sym, ap, length, take, drop, length-take-le, take_at, arith}
 use Rattle.table.specs.Fill.{all_nodes}
 use Rattle.session_open.proofs.Filling.{length-all, numbered}
 use Rattle.session_open.proofs.order_links.Goals as goal

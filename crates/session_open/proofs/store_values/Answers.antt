@@ -1,5 +1,6 @@
 -- `session_open::store_values` meets its contract. Assumes nothing.
-use Rattle.base_lists.specs.Kit.{◌∙◌, ap, List, ◌++◌, ℕ, length, drop}
+use Rattle.std.specs.Prelude.{◌++◌}
+use Rattle.base_lists.specs.Kit.{◌∙◌, ap, List, ℕ, length, drop}
 use Rattle.session_open.specs.Open.{padded}
 use Rattle.session_open.proofs.store_values.Goals as goal
 

@@ -1,5 +1,6 @@
 -- `session_strike::find` meets its contract. The loop's invariant: no word before has a mark. The measure is how many words are left. Assumes nothing.
-use Rattle.base_lists.specs.Kit.{◌≡◌, ◌∙◌, sym, ap, false, not, eqb, length, get_or, arith, rules, eq-eqb, ne_eqb}
+use Rattle.std.specs.Prelude.{◌≡◌}
+use Rattle.base_lists.specs.Kit.{◌∙◌, sym, ap, false, not, eqb, length, get_or, arith, rules, eq-eqb, ne_eqb}
 use borrow.Author.Count.{below_more}
 use Rattle.base_lists.proofs.Below.{least_below-is, least_below-all}
 use Rattle.base_lists.proofs.Tests.{true-T}

@@ -1,5 +1,6 @@
 -- `session_strike::find` meets its contract. The loop's invariant: no word before has a mark. The measure is how many words are left. Assumes nothing.
-use Rattle.base_lists.specs.Kit.{◌≡◌, false, not, ℕ, ◌≤◌, ◌<◌, ◌-◌, eqb, length, get_or}
+use Rattle.std.specs.Prelude.{◌≡◌, ◌≤◌, ◌<◌, ◌-◌}
+use Rattle.base_lists.specs.Kit.{false, not, ℕ, eqb, length, get_or}
 use Rattle.session_strike.proofs.find.Given as goal
 
 abbrev pub invariant-loop-j : goal.invariant-loop-j

@@ -1,6 +1,7 @@
 -- `session_strike::mark_ends` meets its contract. The loop's invariant: marking the ends of the links that are left leads to the whole. The measure is
 -- how many are left. Assumes nothing.
-use Rattle.base_lists.specs.Kit.{◌≡◌, ◌≤◌, ◌-◌, length, drop}
+use Rattle.std.specs.Prelude.{◌≡◌, ◌≤◌, ◌-◌}
+use Rattle.base_lists.specs.Kit.{length, drop}
 use Rattle.session_strike.specs.Moves.{beyond, mark_all}
 use Rattle.session_strike.proofs.mark_ends.Given as goal
 

@@ -1,6 +1,7 @@
 -- `session_strike::reach` meets its contract. The loop's invariant: the union so far, with the sets at the ends of the links that are left, is the whole
 -- union. The measure is how many are left. Assumes nothing.
-use Rattle.base_lists.specs.Kit.{◌∙◌, sym, ap, ℕ, ◌+◌, get_or, drop, arith}
+use Rattle.std.specs.Prelude.{◌+◌}
+use Rattle.base_lists.specs.Kit.{◌∙◌, sym, ap, ℕ, get_or, drop, arith}
 use lib.Bits.{bit_or, or_zero_l}
 use Rattle.base_bits.specs.Bits.{union_at}
 use Rattle.session_strike.specs.Moves.{beyond}

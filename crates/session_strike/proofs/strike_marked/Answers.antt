@@ -1,6 +1,7 @@
 -- `session_strike::strike_marked` meets its contract. The loop's invariant is `Going`; the measure falls with a set that gets smaller, or with a mark that is taken
 -- away. Assumes nothing.
-use Rattle.base_lists.specs.Kit.{◌∙◌, sym, ◌<◌, arith}
+use Rattle.std.specs.Prelude.{◌<◌}
+use Rattle.base_lists.specs.Kit.{◌∙◌, sym, arith}
 use Rattle.session_strike.proofs.Going.{going_start, going-word, going_next, going_less, going_end}
 use Rattle.session_strike.proofs.strike_marked.Goals as goal
 

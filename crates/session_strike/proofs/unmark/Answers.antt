@@ -1,5 +1,6 @@
 -- `session_strike::unmark` meets its contract. Assumes nothing.
-use Rattle.base_lists.specs.Kit.{ap, ℕ, ◌+◌, ◌*◌, set}
+use Rattle.std.specs.Prelude.{◌+◌, ◌*◌}
+use Rattle.base_lists.specs.Kit.{ap, ℕ, set}
 use Rattle.session_strike.specs.Moves.{node_at, unmark}
 use Rattle.session_strike.proofs.unmark.Goals as goal
 

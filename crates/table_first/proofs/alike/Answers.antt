@@ -1,6 +1,7 @@
 -- `table_first::alike` meets its contract. The loop's invariant: the set so far is that of the parts before u. The measure is how many
 -- parts are left. Assumes nothing.
-use Rattle.base_lists.specs.Kit.{◌≡◌, ◌∙◌, sym, ap, refl, ap₂, ℕ, length, get_or, arith}
+use Rattle.std.specs.Prelude.{◌≡◌}
+use Rattle.base_lists.specs.Kit.{◌∙◌, sym, ap, refl, ap₂, ℕ, length, get_or, arith}
 use lib.Bits.{bit_or}
 use Rattle.base_bits.specs.Bits.{number_of}
 use Rattle.base_bits.proofs.Numbers.{number-insert, number-skip}

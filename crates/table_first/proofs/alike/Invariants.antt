@@ -1,6 +1,7 @@
 -- `table_first::alike` meets its contract. The loop's invariant: the set so far is that of the parts before u. The measure is how many
 -- parts are left. Assumes nothing.
-use Rattle.base_lists.specs.Kit.{◌≡◌, ◌≤◌, ◌-◌, length, get_or}
+use Rattle.std.specs.Prelude.{◌≡◌, ◌≤◌, ◌-◌}
+use Rattle.base_lists.specs.Kit.{length, get_or}
 use Rattle.base_bits.specs.Bits.{number_of}
 use Rattle.table.specs.Row.{kinds_agree}
 use Rattle.table_first.proofs.alike.Given as goal

@@ -1,6 +1,7 @@
 -- `table_first::copy` meets its contract, as `start` does: the turns that are left lead to the whole table and the whole count. Assumes
 -- nothing.
-use Rattle.base_lists.specs.Kit.{refl, ◌<◌, length, get_or, arith, rules}
+use Rattle.std.specs.Prelude.{◌<◌}
+use Rattle.base_lists.specs.Kit.{refl, length, get_or, arith, rules}
 use Rattle.base_lists.specs.List.{Below}
 use Rattle.table_first.proofs.Filling.{filling-start, filling-fits, filling-next, filling-end, filled-written}
 use Rattle.table_first.proofs.copy.Goals as goal

@@ -1,6 +1,7 @@
 -- `table_first::copy` meets its contract, as `start` does: the turns that are left lead to the whole table and the whole count. Assumes
 -- nothing.
-use Rattle.base_lists.specs.Kit.{◌-◌, length, get_or}
+use Rattle.std.specs.Prelude.{◌-◌}
+use Rattle.base_lists.specs.Kit.{length, get_or}
 use Rattle.table_first.proofs.Filling.{Filling}
 use Rattle.table_first.proofs.copy.Given as goal
 

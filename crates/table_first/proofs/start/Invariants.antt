@@ -1,6 +1,7 @@
 -- `table_first::start` meets its contract. The loop's invariant: the turns that are left lead to the whole table and the whole count. The
 -- measure is how many are left. Assumes nothing.
-use Rattle.base_lists.specs.Kit.{◌-◌, length}
+use Rattle.std.specs.Prelude.{◌-◌}
+use Rattle.base_lists.specs.Kit.{length}
 use Rattle.table.specs.First.{start_node}
 use Rattle.table_first.proofs.Filling.{Filling}
 use Rattle.table_first.proofs.start.Given as goal

@@ -1,6 +1,7 @@
 -- `table_largest::refine` meets its contract: the list of nodes has each node that changes, and what the rounds settle at is the end of the row.
 -- Assumes nothing.
-use Rattle.base_lists.specs.Kit.{sym, ◌≤◌, length, length-take-le}
+use Rattle.std.specs.Prelude.{◌≤◌}
+use Rattle.base_lists.specs.Kit.{sym, length, length-take-le}
 use Rattle.base_lists.proofs.Parts.{take-replicate}
 use Rattle.graph.specs.Search.{far}
 use Rattle.graph.proofs.Net.{net-of, net-few}

@@ -1,7 +1,8 @@
 -- `table_largest::settle` meets its contract. The loop's invariant: `table` is the table after `rounds` rounds, each of which struck a pair; the
 -- nodes that change are listed, each with its next set; and nothing is marked. The measure is how many pairs there are, which falls with each
 -- round. Assumes nothing.
-use Rattle.base_lists.specs.Kit.{◌≡◌, length, replicate}
+use Rattle.std.specs.Prelude.{◌≡◌}
+use Rattle.base_lists.specs.Kit.{length, replicate}
 use Rattle.graph.specs.Search.{far}
 use Rattle.table.specs.Prepared.{tables}
 use Rattle.table_largest.specs.Rounds.{Round}

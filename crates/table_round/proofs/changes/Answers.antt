@@ -1,6 +1,7 @@
 -- `table_round::changes` meets its contract. The loop's invariant: what is listed, with what is left of the list, leads to the whole. The
 -- measure is how many are left. Assumes nothing.
-use Rattle.base_lists.specs.Kit.{◌∙◌, refl, ◌<◌, length, get_or, arith}
+use Rattle.std.specs.Prelude.{◌<◌}
+use Rattle.base_lists.specs.Kit.{◌∙◌, refl, length, get_or, arith}
 use Rattle.base_lists.specs.List.{Below}
 use Rattle.table_round.proofs.Pending.{listing_start, listing-next, listing-end}
 use Rattle.table_round.proofs.changes.Goals as goal

@@ -1,6 +1,7 @@
 -- `table_round::changes` meets its contract. The loop's invariant: what is listed, with what is left of the list, leads to the whole. The
 -- measure is how many are left. Assumes nothing.
-use Rattle.base_lists.specs.Kit.{◌≡◌, ◌-◌, length}
+use Rattle.std.specs.Prelude.{◌≡◌, ◌-◌}
+use Rattle.base_lists.specs.Kit.{length}
 use Rattle.table.specs.Prepared.{tables}
 use Rattle.table_strike.specs.Strike.{strike_node}
 use Rattle.table_round.proofs.Pending.{Listing}

@@ -1,6 +1,7 @@
 -- `table_round::unmark` meets its contract. The loop's invariant: the marks that are left to take away lead to the whole. The measure is how
 -- many are left. Assumes nothing.
-use Rattle.base_lists.specs.Kit.{◌≡◌, ◌≤◌, ◌-◌, length, drop}
+use Rattle.std.specs.Prelude.{◌≡◌, ◌≤◌, ◌-◌}
+use Rattle.base_lists.specs.Kit.{length, drop}
 use Rattle.graph.specs.Search.{far}
 use Rattle.table.specs.Fill.{fill_at}
 use Rattle.table_round.proofs.unmark.Given as goal

@@ -1,6 +1,7 @@
 -- `table_round::write` meets its contract. The loop's invariant: what is left to write leads to the whole table, and `kept` is how many
 -- pairs the table has. The measure is how many sets are left. Assumes nothing.
-use Rattle.base_lists.specs.Kit.{◌-◌, length}
+use Rattle.std.specs.Prelude.{◌-◌}
+use Rattle.base_lists.specs.Kit.{length}
 use Rattle.table_round.proofs.Pending.{Putting}
 use Rattle.table_round.proofs.write.Given as goal
 

@@ -1,6 +1,7 @@
 -- `table_strike::all_empty` meets its contract. The loop's invariant: `union` is the union of the masks passed. The measure is how many are left.
 -- Assumes nothing.
-use Rattle.base_lists.specs.Kit.{◌-◌, length}
+use Rattle.std.specs.Prelude.{◌-◌}
+use Rattle.base_lists.specs.Kit.{length}
 use Rattle.table_strike.proofs.Survivors.{UnionTo}
 use Rattle.table_strike.proofs.all_empty.Given as goal
 

@@ -1,5 +1,6 @@
 -- `table_strike::parts_left` meets its contract: the two halves of the masks. Assumes nothing.
-use Rattle.base_lists.specs.Kit.{sym, ◌<◌, ◌^◌, drop, length-drop, length-take-le, arith}
+use Rattle.std.specs.Prelude.{◌<◌, ◌^◌}
+use Rattle.base_lists.specs.Kit.{sym, drop, length-drop, length-take-le, arith}
 use Rattle.base_lists.specs.List.{part}
 use Rattle.table_strike.proofs.parts_left.Goals as goal
 

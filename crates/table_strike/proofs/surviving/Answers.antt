@@ -1,6 +1,7 @@
 -- `table_strike::surviving` meets its contract. The loop's invariant: what is kept so far, with the survivors of the parts that are left,
 -- is the survivors of the set. The measure is what is left, as a number. Assumes nothing.
-use Rattle.base_lists.specs.Kit.{◌≡◌, ◌∙◌, sym, ap, ℕ, ◌<◌, zero, ◌^◌, length, get_or, arith}
+use Rattle.std.specs.Prelude.{◌≡◌, ◌<◌, ◌^◌}
+use Rattle.base_lists.specs.Kit.{◌∙◌, sym, ap, ℕ, zero, length, get_or, arith}
 use lib.Bits.{bit_or, or_zero_l, or_zero_r}
 use Rattle.base_bits.specs.Bits.{first_of, without_first, subset_of}
 use Rattle.base_bits.proofs.Members.{first-lt, first_below, without-lt}

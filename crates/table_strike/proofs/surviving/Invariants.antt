@@ -1,6 +1,6 @@
 -- `table_strike::surviving` meets its contract. The loop's invariant: what is kept so far, with the survivors of the parts that are left,
 -- is the survivors of the set. The measure is what is left, as a number. Assumes nothing.
-use Rattle.base_lists.specs.Kit.{◌≡◌, ◌≤◌}
+use Rattle.std.specs.Prelude.{◌≡◌, ◌≤◌}
 use lib.Bits.{bit_or}
 use Rattle.table_strike.specs.Strike.{survivors}
 use Rattle.table_strike.proofs.surviving.Given as goal

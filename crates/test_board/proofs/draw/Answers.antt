@@ -1,5 +1,6 @@
 -- `test_board::draw` meets its contract. Assumes nothing.
-use Rattle.base_lists.specs.Kit.{◌∙◌, ap, ℕ, ◌^◌, ◌/◌, ◌%◌, mod-le, arith}
+use Rattle.std.specs.Prelude.{◌^◌, ◌/◌, ◌%◌}
+use Rattle.base_lists.specs.Kit.{◌∙◌, ap, ℕ, mod-le, arith}
 use Rattle.test_board.specs.Generator.{draw}
 use Rattle.test_board.proofs.draw.Goals as goal
 

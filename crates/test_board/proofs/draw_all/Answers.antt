@@ -1,6 +1,7 @@
 -- `test_board::draw_all` meets its contract. The loop's invariant: i numbers are drawn and stored, and the state is i steps on. The measure is how
 -- many are left. Assumes nothing.
-use Rattle.base_lists.specs.Kit.{◌≡◌, ◌∙◌, sym, ap, refl, ap₂, List, ◌++◌, ℕ, drop, set, length-set, arith}
+use Rattle.std.specs.Prelude.{◌≡◌, ◌++◌}
+use Rattle.base_lists.specs.Kit.{◌∙◌, sym, ap, refl, ap₂, List, ℕ, drop, set, length-set, arith}
 use Rattle.test_board.specs.Generator.{step, draw, stepped, draws}
 use Rattle.test_board.proofs.Generator.{stepped-next}
 use Rattle.test_board.proofs.Draws.{draws-none, draws-more}

@@ -1,6 +1,7 @@
 -- `test_board::draw_all` meets its contract. The loop's invariant: i numbers are drawn and stored, and the state is i steps on. The measure is how
 -- many are left. Assumes nothing.
-use Rattle.base_lists.specs.Kit.{◌≡◌, ◌++◌, ◌≤◌, ◌-◌, length, drop}
+use Rattle.std.specs.Prelude.{◌≡◌, ◌++◌, ◌≤◌, ◌-◌}
+use Rattle.base_lists.specs.Kit.{length, drop}
 use Rattle.test_board.specs.Generator.{stepped, draws}
 use Rattle.test_board.proofs.draw_all.Given as goal
 

@@ -1,5 +1,6 @@
 -- `test_board::draw_test_board` meets its contract: the kinds are drawn from the seed on, and the pairs from where they left the state. Assumes nothing.
-use Rattle.base_lists.specs.Kit.{◌∙◌, ap, ◌++◌, ℕ, ◌*◌, drop}
+use Rattle.std.specs.Prelude.{◌++◌, ◌*◌}
+use Rattle.base_lists.specs.Kit.{◌∙◌, ap, ℕ, drop}
 use Rattle.test_board.specs.Generator.{draws}
 use Rattle.test_board.specs.Board.{kinds_drawn, pairs_drawn}
 use Rattle.test_board.proofs.draw_test_board.Goals as goal

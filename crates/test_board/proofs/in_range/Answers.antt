@@ -1,5 +1,6 @@
 -- `test_board::in_range` meets its contract: each return rewrites with the tests that led there. Assumes nothing.
-use Rattle.base_lists.specs.Kit.{sym, ap, Bool, ◌&&◌, leb, le-leb, lt-leb}
+use Rattle.std.specs.Prelude.{◌&&◌}
+use Rattle.base_lists.specs.Kit.{sym, ap, Bool, leb, le-leb, lt-leb}
 use Rattle.test_board.specs.Board.{sizes_in_range}
 use Rattle.test_board.proofs.in_range.Goals as goal
 

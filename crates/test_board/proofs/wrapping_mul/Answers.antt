@@ -1,5 +1,6 @@
 -- `test_board::wrapping_mul` meets its contract: the product of two numbers of 32 bits has at most 64. Assumes nothing.
-use Rattle.base_lists.specs.Kit.{ℕ, ◌≤◌, ◌<◌, mul-le-mul, arith}
+use Rattle.std.specs.Prelude.{◌≤◌, ◌<◌}
+use Rattle.base_lists.specs.Kit.{ℕ, mul-le-mul, arith}
 use Rattle.test_board.proofs.wrapping_mul.Goals as goal
 
 small : (x : ℕ) → x < 4294967296 → x ≤ 4294967295

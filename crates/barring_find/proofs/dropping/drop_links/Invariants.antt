@@ -1,6 +1,7 @@
 -- `barring_find::dropping::drop_links` meets its contract. The loop's invariant: the links before i are gone through, and what is left to do comes to
 -- the kept links. The measure is how many are left. Assumes nothing.
-use Rattle.base_lists.specs.Kit.{◌≡◌, ◌-◌, length}
+use Rattle.std.specs.Prelude.{◌≡◌, ◌-◌}
+use Rattle.base_lists.specs.Kit.{length}
 use Rattle.barring_find.proofs.Drops.{Dropping}
 use Rattle.barring_find.proofs.dropping.drop_links.Given as goal
 

@@ -1,6 +1,7 @@
 -- `barring_find::trial::bars` meets its contract: with the masks of the chosen links the centre is in no pair that is left exactly where they
 -- bar. Assumes nothing.
-use Rattle.base_lists.specs.Kit.{◌∙◌, sym, refl, subst, ℕ, ◌≤◌, ◌<◌, length, length-take-le}
+use Rattle.std.specs.Prelude.{◌≤◌, ◌<◌}
+use Rattle.base_lists.specs.Kit.{◌∙◌, sym, refl, subst, ℕ, length, length-take-le}
 use Rattle.barring_find.proofs.Tried.{tried-starts, tried-ends, tried-long, tried-begun, tried-bars}
 use Rattle.barring_find.proofs.trial.bars.Goals as goal
 use Rattle.barring_find.proofs.trial.bars.Goals.{Start}

@@ -1,6 +1,7 @@
 -- `barring_find::trial::chosen_masks` meets its contract: the chosen starts and ends stand at the front of two lists, and the masks are made of
 -- these. Assumes nothing.
-use Rattle.base_lists.specs.Kit.{◌≡◌, ◌∙◌, sym, ap, subst, ◌≤◌, length, take, length-take-le}
+use Rattle.std.specs.Prelude.{◌≡◌, ◌≤◌}
+use Rattle.base_lists.specs.Kit.{◌∙◌, sym, ap, subst, length, take, length-take-le}
 use Rattle.base_lists.specs.List.{Below}
 use Rattle.graph.specs.Chosen.{picked}
 use Rattle.graph.proofs.Chosen.{picked-parallel, picked-below}

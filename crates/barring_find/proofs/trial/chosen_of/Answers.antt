@@ -1,6 +1,7 @@
 -- `barring_find::trial::chosen_of` meets its contract: the entries are copied, and of the copy the marked ones are moved to the front. Assumes
 -- nothing.
-use Rattle.base_lists.specs.Kit.{◌≡◌, ◌∙◌, sym, ap, ◌≤◌, length, take, length-take-le, take_at, take-append-le, arith}
+use Rattle.std.specs.Prelude.{◌≡◌, ◌≤◌}
+use Rattle.base_lists.specs.Kit.{◌∙◌, sym, ap, length, take, length-take-le, take_at, take-append-le, arith}
 use Rattle.base_lists.proofs.Parts.{length-append-le}
 use Rattle.graph.specs.Chosen.{picked}
 use Rattle.barring_find.proofs.trial.chosen_of.Goals as goal

@@ -1,6 +1,7 @@
 -- `bounded_layer::layer::widen` meets its contract. The loop's invariant: the first v sets are those of the next layer, and the others as they
 -- were. The measure is how many are left. Assumes nothing.
-use Rattle.base_lists.specs.Kit.{◌≡◌, List, ◌++◌, ℕ, ◌≤◌, ◌-◌, length, get_or, drop}
+use Rattle.std.specs.Prelude.{◌≡◌, ◌++◌, ◌≤◌, ◌-◌}
+use Rattle.base_lists.specs.Kit.{List, ℕ, length, get_or, drop}
 use lib.Bits.{bit_or}
 use Rattle.base_lists.specs.List.{tabulate}
 use Rattle.base_bits.specs.Bits.{union_at}

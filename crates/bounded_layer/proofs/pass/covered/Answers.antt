@@ -1,6 +1,7 @@
 -- `bounded_layer::pass::covered` meets its contract. The loop's invariant: what is kept so far, with what is kept of the parts that are left,
 -- is what is kept of the set. The measure is what is left, as a number. Assumes nothing.
-use Rattle.base_lists.specs.Kit.{◌≡◌, ◌∙◌, sym, ap, ℕ, ◌<◌, zero, ◌^◌, length, get_or, arith}
+use Rattle.std.specs.Prelude.{◌≡◌, ◌<◌, ◌^◌}
+use Rattle.base_lists.specs.Kit.{◌∙◌, sym, ap, ℕ, zero, length, get_or, arith}
 use lib.Bits.{bit_or, or_zero_l, or_zero_r}
 use Rattle.base_bits.specs.Bits.{first_of, without_first, subset_of}
 use Rattle.base_bits.proofs.Digits.{bit_below}

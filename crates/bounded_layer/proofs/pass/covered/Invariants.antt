@@ -1,6 +1,6 @@
 -- `bounded_layer::pass::covered` meets its contract. The loop's invariant: what is kept so far, with what is kept of the parts that are left,
 -- is what is kept of the set. The measure is what is left, as a number. Assumes nothing.
-use Rattle.base_lists.specs.Kit.{◌≡◌, ◌≤◌}
+use Rattle.std.specs.Prelude.{◌≡◌, ◌≤◌}
 use lib.Bits.{bit_or}
 use Rattle.bounded_layer.specs.Pass.{kept_within}
 use Rattle.bounded_layer.proofs.pass.covered.Given as goal

@@ -1,6 +1,7 @@
 -- `bounded_strike::round::count` meets its contract. The loop's invariant: the sum so far, with the pairs of the sets that are left, is the
 -- number of pairs. The measure is how many are left. Assumes nothing.
-use Rattle.base_lists.specs.Kit.{◌≡◌, ◌≤◌, ◌+◌, ◌-◌, length, drop}
+use Rattle.std.specs.Prelude.{◌≡◌, ◌≤◌, ◌+◌, ◌-◌}
+use Rattle.base_lists.specs.Kit.{length, drop}
 use Rattle.table.specs.Row.{pairs}
 use Rattle.bounded_strike.proofs.round.count.Given as goal
 

@@ -1,5 +1,6 @@
 -- `bounded_strike::round::strike` meets its contract. Assumes nothing.
-use Rattle.base_lists.specs.Kit.{◌≡◌, ◌∙◌, sym, ap, List, ◌++◌, append-nil, ℕ, ◌≤◌, length, take, drop, length-drop, drop_of_length-le, length-take-le, arith}
+use Rattle.std.specs.Prelude.{◌≡◌, ◌++◌, ◌≤◌}
+use Rattle.base_lists.specs.Kit.{◌∙◌, sym, ap, List, append-nil, ℕ, length, take, drop, length-drop, drop_of_length-le, length-take-le, arith}
 use Rattle.base_lists.specs.List.{part}
 use Rattle.graph_neighbours.specs.Lookup.{neighbours_in}
 use Rattle.graph_neighbours.specs.declared.neighbours.Direction.TheVariants.{Forward, Backward}

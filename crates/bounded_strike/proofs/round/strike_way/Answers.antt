@@ -1,6 +1,7 @@
 -- `bounded_strike::round::strike_way` meets its contract: each call makes one bound more, over the layer that reaches one link further.
 -- Assumes nothing.
-use Rattle.base_lists.specs.Kit.{◌≡◌, ◌∙◌, sym, ap, refl, List, ℕ, ◌≤◌, ◌+◌, length, take, drop, length-drop, length-take-le, arith}
+use Rattle.std.specs.Prelude.{◌≡◌, ◌≤◌, ◌+◌}
+use Rattle.base_lists.specs.Kit.{◌∙◌, sym, ap, refl, List, ℕ, length, take, drop, length-drop, length-take-le, arith}
 use Rattle.base_lists.specs.List.{part}
 use Rattle.graph_neighbours.specs.Lookup.{neighbours_in}
 use Rattle.bounded_strike.specs.Round.{layer_of, passes}

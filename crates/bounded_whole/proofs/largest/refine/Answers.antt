@@ -1,6 +1,7 @@
 -- `bounded_whole::largest::refine` meets its contract, as table_largest::refine does. The loop's invariant: `table` is the table after `rounds`
 -- rounds, each of which struck a pair, and has `kept` pairs. The measure is `kept`, which falls with each round. Assumes nothing.
-use Rattle.base_lists.specs.Kit.{◌≡◌, ◌∙◌, sym, refl, ◌<◌, ◌+◌, length, arith}
+use Rattle.std.specs.Prelude.{◌≡◌, ◌<◌, ◌+◌}
+use Rattle.base_lists.specs.Kit.{◌∙◌, sym, refl, length, arith}
 use Rattle.table.specs.Prepared.{tables}
 use Rattle.bounded_strike.specs.Round.{Turn}
 use Rattle.bounded_whole.proofs.Rounds.{first-turn, turn-count, turn-less, turn-next, turn_last, turn_end}

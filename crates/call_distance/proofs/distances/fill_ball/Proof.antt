@@ -1,6 +1,7 @@
 -- `call_distance::distances::fill_ball` meets its contract: the distances are written into the front of the lent table.
 -- Assumes nothing.
-use Rattle.base_lists.specs.Kit.{◌∙◌, sym, ap, List, ◌++◌, ℕ, ◌≤◌, ◌<◌, T, ltb, length, drop, length-take-le, rules}
+use Rattle.std.specs.Prelude.{◌++◌, ◌≤◌, ◌<◌}
+use Rattle.base_lists.specs.Kit.{◌∙◌, sym, ap, List, ℕ, T, ltb, length, drop, length-take-le, rules}
 use Rattle.base_lists.specs.List.{all}
 use Rattle.base_lists.proofs.Parts.{length-take-for}
 use Rattle.graph.specs.Search.{distances}

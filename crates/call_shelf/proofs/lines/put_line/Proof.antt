@@ -1,5 +1,6 @@
 -- `call_shelf::lines::put_line` meets its contract: three bytes, one after another. Assumes nothing.
-use Rattle.base_lists.specs.Kit.{List, [], ◌∷◌, ◌++◌, ℕ, ◌+◌, ◌/◌, ◌%◌, rules}
+use Rattle.std.specs.Prelude.{◌∷◌, ◌++◌, ◌+◌, ◌/◌, ◌%◌}
+use Rattle.base_lists.specs.Kit.{List, [], ℕ, rules}
 use Rattle.base_text.specs.Text.{Put, Fits}
 use Rattle.base_text.proofs.Text.{put_then, fits-first, fits-then}
 use Rattle.call_shelf.specs.Text.{line_of}

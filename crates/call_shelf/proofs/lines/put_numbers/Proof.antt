@@ -1,5 +1,6 @@
 -- `call_shelf::lines::put_numbers` meets its contract. The loop's invariant: the lines of the first i numbers are written. Assumes nothing.
-use Rattle.base_lists.specs.Kit.{ap, ◌≤◌, ◌-◌, length, take, take_all, arith}
+use Rattle.std.specs.Prelude.{◌≤◌, ◌-◌}
+use Rattle.base_lists.specs.Kit.{ap, length, take, take_all, arith}
 use Rattle.base_text.specs.Text.{Put}
 use Rattle.base_text.proofs.Text.{put-nothing, put_then, put_same, put-length, fits-then}
 use Rattle.call_shelf.specs.Text.{shelf_text}

@@ -1,5 +1,6 @@
 -- `call_shelf::strings::step` meets its contract. Assumes nothing.
-use Rattle.base_lists.specs.Kit.{◌+◌, arith, rules, le-leb, lt-leb}
+use Rattle.std.specs.Prelude.{◌+◌}
+use Rattle.base_lists.specs.Kit.{arith, rules, le-leb, lt-leb}
 use Rattle.call_shelf.specs.Strings.{capped}
 use Rattle.call_shelf.proofs.strings.step.Statement.{statement}
 use Rattle.call_shelf.proofs.strings.step.Tie as tie

@@ -1,5 +1,6 @@
 -- `call_shelf::strings::string_at` meets its contract. The loop's invariant: the first j strings lie before the place. Assumes nothing.
-use Rattle.base_lists.specs.Kit.{sym, ◌≤◌, ◌-◌, arith, rules}
+use Rattle.std.specs.Prelude.{◌≤◌, ◌-◌}
+use Rattle.base_lists.specs.Kit.{sym, arith, rules}
 use Rattle.call_shelf.proofs.Cutting.{Passed, cut-past, passed_none, passed-more, passed-last}
 use Rattle.call_shelf.proofs.strings.string_at.Statement.{statement}
 use Rattle.call_shelf.proofs.strings.string_at.Tie as tie

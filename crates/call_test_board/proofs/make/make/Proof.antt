@@ -1,5 +1,6 @@
 -- `call_test_board::make::make` meets its contract: the test board is drawn, its links are collected, and writing its circuit is not refused. Assumes nothing.
-use Rattle.base_lists.specs.Kit.{◌≡◌, ◌∙◌, sym, ap, ◌*◌, length, take, arith, rules}
+use Rattle.std.specs.Prelude.{◌≡◌, ◌*◌}
+use Rattle.base_lists.specs.Kit.{◌∙◌, sym, ap, length, take, arith, rules}
 use Rattle.base_lists.proofs.Parts.{length-take-room}
 use Rattle.graph.specs.Circuit.{Circuit}
 use Rattle.file_format.specs.Reading.{filled}

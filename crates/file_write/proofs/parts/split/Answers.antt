@@ -1,6 +1,7 @@
 -- `file_write::parts::split` meets its contract. The loop's invariant: the kinds and the packages of the labels passed stand at the front. Assumes
 -- nothing.
-use Rattle.base_lists.specs.Kit.{◌≡◌, ◌∙◌, sym, ap, refl, ℕ, length, get_or, length-set, arith}
+use Rattle.std.specs.Prelude.{◌≡◌}
+use Rattle.base_lists.specs.Kit.{◌∙◌, sym, ap, refl, ℕ, length, get_or, length-set, arith}
 use Rattle.base_lists.specs.List.{tabulate}
 use Rattle.base_lists.proofs.Tables.{filled_none, filled_more, stored-whole}
 use Rattle.file_format.specs.Label.{kind_in, package_in, kinds_in, packages_in}

@@ -1,6 +1,7 @@
 -- `file_write::parts::split` meets its contract. The loop's invariant: the kinds and the packages of the labels passed stand at the front. Assumes
 -- nothing.
-use Rattle.base_lists.specs.Kit.{◌≡◌, ◌++◌, ◌≤◌, ◌-◌, length, get_or, drop}
+use Rattle.std.specs.Prelude.{◌≡◌, ◌++◌, ◌≤◌, ◌-◌}
+use Rattle.base_lists.specs.Kit.{length, get_or, drop}
 use Rattle.base_lists.specs.List.{tabulate}
 use Rattle.file_format.specs.Label.{kind_in, package_in}
 use Rattle.file_write.proofs.parts.split.Given as goal

@@ -1,5 +1,6 @@
 -- `graph::marked::choose` meets its contract: the chosen ones of the entries passed stand in front. Assumes nothing.
-use Rattle.base_lists.specs.Kit.{◌-◌, length}
+use Rattle.std.specs.Prelude.{◌-◌}
+use Rattle.base_lists.specs.Kit.{length}
 use Rattle.graph.proofs.Choosing.{ChosenTo}
 use Rattle.graph.proofs.marked.choose.Given as goal
 

@@ -1,6 +1,7 @@
 -- `graph::marked::count` meets its contract. The loop's invariant: k is how many bytes before j are 1. The measure is how many are left.
 -- Assumes nothing.
-use Rattle.base_lists.specs.Kit.{◌≡◌, ◌∙◌, ap, refl, ℕ, add-one, length, get_or, arith, eq-eqb, ne_eqb}
+use Rattle.std.specs.Prelude.{◌≡◌}
+use Rattle.base_lists.specs.Kit.{◌∙◌, ap, refl, ℕ, add-one, length, get_or, arith, eq-eqb, ne_eqb}
 use Rattle.base_lists.specs.Below.{count_below}
 use Rattle.base_lists.proofs.Below.{count_below-suc}
 use Rattle.graph.specs.Search.{inside}

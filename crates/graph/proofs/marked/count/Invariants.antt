@@ -1,6 +1,7 @@
 -- `graph::marked::count` meets its contract. The loop's invariant: k is how many bytes before j are 1. The measure is how many are left.
 -- Assumes nothing.
-use Rattle.base_lists.specs.Kit.{◌≡◌, ◌≤◌, ◌-◌, length}
+use Rattle.std.specs.Prelude.{◌≡◌, ◌≤◌, ◌-◌}
+use Rattle.base_lists.specs.Kit.{length}
 use Rattle.base_lists.specs.Below.{count_below}
 use Rattle.graph.specs.Search.{inside}
 use Rattle.graph.proofs.marked.count.Given as goal

@@ -1,6 +1,7 @@
 -- `graph::marked::fill` meets its contract. The loop's invariant: the bytes before i are x, and the others as they were. The measure is how
 -- many are left. Assumes nothing.
-use Rattle.base_lists.specs.Kit.{◌-◌, length}
+use Rattle.std.specs.Prelude.{◌-◌}
+use Rattle.base_lists.specs.Kit.{length}
 use Rattle.base_lists.proofs.Filling.{FilledTo}
 use Rattle.graph.proofs.marked.fill.Given as goal
 

@@ -1,6 +1,7 @@
 -- `graph_neighbours::neighbours::stretch` meets its contract: each test that fails leaves the stretch empty, and past them all the offsets are
 -- sound. Assumes nothing.
-use Rattle.base_lists.specs.Kit.{sym, ◌+◌, arith}
+use Rattle.std.specs.Prelude.{◌+◌}
+use Rattle.base_lists.specs.Kit.{sym, arith}
 use Rattle.graph.proofs.Lookup.{stretch-part, stretch-none}
 use Rattle.graph_neighbours.proofs.Lookup.{next-is}
 use Rattle.graph_neighbours.proofs.neighbours.stretch.Goals as goal

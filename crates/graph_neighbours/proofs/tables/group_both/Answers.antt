@@ -1,6 +1,7 @@
 -- `graph_neighbours::tables::group_both` meets its contract: one grouping serves both directions, and fills one half of each list.
 -- Assumes nothing.
-use Rattle.base_lists.specs.Kit.{◌≡◌, ◌∙◌, sym, ◌≤◌, ◌+◌, length, length-take-le, arith}
+use Rattle.std.specs.Prelude.{◌≡◌, ◌≤◌, ◌+◌}
+use Rattle.base_lists.specs.Kit.{◌∙◌, sym, length, length-take-le, arith}
 use Rattle.base_lists.proofs.Parts.{length-halved}
 use Rattle.graph_neighbours.proofs.Grouped.{length-fore, length-aft, grouped-both}
 use Rattle.graph_neighbours.proofs.tables.group_both.Goals as goal

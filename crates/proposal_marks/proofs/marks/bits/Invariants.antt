@@ -1,5 +1,6 @@
 -- `proposal_marks::marks::bits` meets its contract: the bytes passed are 0 or 1. Assumes nothing.
-use Rattle.base_lists.specs.Kit.{ℕ, ◌≤◌, ◌<◌, ◌-◌, length, get_or}
+use Rattle.std.specs.Prelude.{◌≤◌, ◌<◌, ◌-◌}
+use Rattle.base_lists.specs.Kit.{ℕ, length, get_or}
 use Rattle.proposal_marks.proofs.marks.bits.Given as goal
 
 abbrev pub invariant-loop-i : goal.invariant-loop-i

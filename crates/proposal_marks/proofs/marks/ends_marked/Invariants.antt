@@ -1,5 +1,6 @@
 -- `proposal_marks::marks::ends_marked` meets its contract: the links passed have both ends marked, where they are marked. Assumes nothing.
-use Rattle.base_lists.specs.Kit.{ℕ, ◌≤◌, ◌<◌, ◌-◌, length}
+use Rattle.std.specs.Prelude.{◌≤◌, ◌<◌, ◌-◌}
+use Rattle.base_lists.specs.Kit.{ℕ, length}
 use Rattle.proposal_marks.proofs.Tests.{EndsAt}
 use Rattle.proposal_marks.proofs.marks.ends_marked.Given as goal
 

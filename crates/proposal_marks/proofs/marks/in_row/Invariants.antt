@@ -1,5 +1,6 @@
 -- `proposal_marks::marks::in_row` meets its contract: the nodes passed were reached, where they are marked. Assumes nothing.
-use Rattle.base_lists.specs.Kit.{◌≡◌, ℕ, ◌≤◌, ◌<◌, ◌-◌, length, get_or}
+use Rattle.std.specs.Prelude.{◌≡◌, ◌≤◌, ◌<◌, ◌-◌}
+use Rattle.base_lists.specs.Kit.{ℕ, length, get_or}
 use Rattle.graph.specs.Search.{far}
 use Rattle.proposal_marks.proofs.marks.in_row.Given as goal
 

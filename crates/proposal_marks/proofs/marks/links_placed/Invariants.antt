@@ -1,5 +1,6 @@
 -- `proposal_marks::marks::links_placed` meets its contract: the links passed are in the place. Assumes nothing.
-use Rattle.base_lists.specs.Kit.{◌≡◌, true, ℕ, ◌≤◌, ◌<◌, ◌-◌, length}
+use Rattle.std.specs.Prelude.{◌≡◌, ◌≤◌, ◌<◌, ◌-◌}
+use Rattle.base_lists.specs.Kit.{true, ℕ, length}
 use Rattle.table.specs.Prepared.{succ_of}
 use Rattle.proposal_marks.proofs.Tests.{placed_at}
 use Rattle.proposal_marks.proofs.marks.links_placed.Given as goal

@@ -1,5 +1,6 @@
 -- `report::lines::put_end` meets its contract, word by word. Assumes nothing.
-use Rattle.base_lists.specs.Kit.{sym, ◌≤◌, ◌+◌, length, arith}
+use Rattle.std.specs.Prelude.{◌≤◌, ◌+◌}
+use Rattle.base_lists.specs.Kit.{sym, length, arith}
 use Rattle.base_text.specs.Text.{bytes}
 use Rattle.base_text.proofs.Text.{put_then, put_same}
 use Rattle.report.proofs.Pieces.{end-pieces, numbered-length, fits-numbered, room-left}

@@ -1,5 +1,6 @@
 -- `report::lines::put_line` meets its contract, piece by piece. Assumes nothing.
-use Rattle.base_lists.specs.Kit.{◌++◌, arith}
+use Rattle.std.specs.Prelude.{◌++◌}
+use Rattle.base_lists.specs.Kit.{arith}
 use Rattle.base_text.specs.Text.{bytes, Fits}
 use Rattle.base_text.proofs.Text.{put_then, fits-less, fits-first, fits-then}
 use Rattle.table.specs.Prepared.{tables}

@@ -1,6 +1,7 @@
 -- `report::lines::put_links` meets its contract. The loop's invariant: the links that start below v are put. The measure is how many nodes are
 -- left. Assumes nothing.
-use Rattle.base_lists.specs.Kit.{◌≡◌, ap, ℕ, length, arith}
+use Rattle.std.specs.Prelude.{◌≡◌}
+use Rattle.base_lists.specs.Kit.{ap, ℕ, length, arith}
 use Rattle.base_lists.specs.Below.{concat_below}
 use Rattle.base_lists.proofs.Concat.{concat_below-next}
 use Rattle.base_text.proofs.Text.{put-nothing, put_then, put_same, put-length, fits-then}

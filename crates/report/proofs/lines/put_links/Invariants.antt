@@ -1,6 +1,7 @@
 -- `report::lines::put_links` meets its contract. The loop's invariant: the links that start below v are put. The measure is how many nodes are
 -- left. Assumes nothing.
-use Rattle.base_lists.specs.Kit.{◌≤◌, ◌-◌, length}
+use Rattle.std.specs.Prelude.{◌≤◌, ◌-◌}
+use Rattle.base_lists.specs.Kit.{length}
 use Rattle.base_lists.specs.Below.{concat_below}
 use Rattle.base_text.specs.Text.{Put}
 use Rattle.table.specs.Prepared.{tables}

@@ -1,5 +1,6 @@
 -- `report::lines::put_start` meets its contract. Assumes nothing.
-use Rattle.base_lists.specs.Kit.{◌≡◌, ◌∙◌, sym, arith}
+use Rattle.std.specs.Prelude.{◌≡◌}
+use Rattle.base_lists.specs.Kit.{◌∙◌, sym, arith}
 use Rattle.base_text.proofs.Text.{put-nothing, put_same, fits-same}
 use Rattle.graph_neighbours.specs.Lookup.{neighbours_in}
 use Rattle.graph_neighbours.proofs.Lookup.{neighbours-below}

@@ -1,5 +1,6 @@
 -- `table::rule::all_or_none` meets its contract: the union of the sets says whether every part occurs. Assumes nothing.
-use Rattle.base_lists.specs.Kit.{◌≡◌, ◌∙◌, sym, ap}
+use Rattle.std.specs.Prelude.{◌≡◌}
+use Rattle.base_lists.specs.Kit.{◌∙◌, sym, ap}
 use Rattle.base_bits.specs.Bits.{size_of}
 use Rattle.table.specs.Union.{union_all}
 use Rattle.table.proofs.AllParts.{ruled-all, ruled-none}

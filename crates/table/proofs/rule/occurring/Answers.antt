@@ -1,6 +1,7 @@
 -- `table::rule::occurring` meets its contract. The loop's invariant: the union so far, with the sets that are left, is the whole union. The
 -- measure is how many are left. Assumes nothing.
-use Rattle.base_lists.specs.Kit.{◌≡◌, ◌∙◌, sym, List, ℕ, ◌≤◌, ◌<◌, ◌+◌, add-one, length, get_or, drop, drop_of_length-le, drop-cons, arith}
+use Rattle.std.specs.Prelude.{◌≡◌, ◌≤◌, ◌<◌, ◌+◌}
+use Rattle.base_lists.specs.Kit.{◌∙◌, sym, List, ℕ, add-one, length, get_or, drop, drop_of_length-le, drop-cons, arith}
 use lib.Bits.{bit_or, or_zero_l, or_zero_r}
 use Rattle.base_bits.proofs.Tests.{bit_or-assoc}
 use Rattle.table.specs.Union.{union_all}

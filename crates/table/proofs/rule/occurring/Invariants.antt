@@ -1,6 +1,7 @@
 -- `table::rule::occurring` meets its contract. The loop's invariant: the union so far, with the sets that are left, is the whole union. The
 -- measure is how many are left. Assumes nothing.
-use Rattle.base_lists.specs.Kit.{◌≡◌, ◌≤◌, ◌-◌, length, drop}
+use Rattle.std.specs.Prelude.{◌≡◌, ◌≤◌, ◌-◌}
+use Rattle.base_lists.specs.Kit.{length, drop}
 use lib.Bits.{bit_or}
 use Rattle.table.specs.Union.{union_all}
 use Rattle.table.proofs.rule.occurring.Given as goal

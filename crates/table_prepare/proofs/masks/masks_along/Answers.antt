@@ -1,6 +1,7 @@
 -- `table_prepare::masks::masks_along` meets its contract: the two halves of the masks, each by the links followed in one direction, or by none.
 -- Assumes nothing.
-use Rattle.base_lists.specs.Kit.{◌≡◌, ◌∙◌, sym, List, ◌++◌, ℕ, length, take, drop, length-append, length-drop, length-take, length-take-le, arith, rules}
+use Rattle.std.specs.Prelude.{◌≡◌, ◌++◌}
+use Rattle.base_lists.specs.Kit.{◌∙◌, sym, List, ℕ, length, take, drop, length-append, length-drop, length-take, length-take-le, arith, rules}
 use Rattle.table.proofs.Prepare.{masked}
 use Rattle.table_prepare.proofs.masks.masks_along.Goals as goal
 

@@ -1,6 +1,7 @@
 -- `table_prepare::masks::masks_of` meets its contract. The loop's invariant: the links that are left, added to the sets so far, make the masks.
 -- The measure is how many are left. Assumes nothing.
-use Rattle.base_lists.specs.Kit.{◌∙◌, sym, ap, refl, ℕ, ◌<◌, ◌+◌, length, get_or, drop, set, length-set, arith, rules}
+use Rattle.std.specs.Prelude.{◌<◌, ◌+◌}
+use Rattle.base_lists.specs.Kit.{◌∙◌, sym, ap, refl, ℕ, length, get_or, drop, set, length-set, arith, rules}
 use lib.Bits.{bit_or}
 use Rattle.base_lists.specs.List.{Below}
 use Rattle.table.specs.Prepared.{masks_of}

@@ -1,6 +1,7 @@
 -- `table_prepare::masks::masks_of` meets its contract. The loop's invariant: the links that are left, added to the sets so far, make the masks.
 -- The measure is how many are left. Assumes nothing.
-use Rattle.base_lists.specs.Kit.{◌≡◌, ◌≤◌, ◌-◌, length, drop}
+use Rattle.std.specs.Prelude.{◌≡◌, ◌≤◌, ◌-◌}
+use Rattle.base_lists.specs.Kit.{length, drop}
 use Rattle.table.specs.Prepared.{masks_of}
 use Rattle.table.proofs.Masks.{add_links}
 use Rattle.table_prepare.proofs.masks.masks_of.Given as goal

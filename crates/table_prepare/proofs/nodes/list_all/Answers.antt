@@ -1,6 +1,7 @@
 -- `table_prepare::nodes::list_all` meets its contract. The loop's invariant: the entries before v are the nodes, and the others as they were.
 -- The measure is how many are left. Assumes nothing.
-use Rattle.base_lists.specs.Kit.{◌≡◌, ◌∙◌, refl, List, ◌++◌, append-nil, ℕ, length, drop, length-set, drop-length, arith}
+use Rattle.std.specs.Prelude.{◌≡◌, ◌++◌}
+use Rattle.base_lists.specs.Kit.{◌∙◌, refl, List, append-nil, ℕ, length, drop, length-set, drop-length, arith}
 use Rattle.base_lists.specs.List.{tabulate}
 use Rattle.base_lists.proofs.Tables.{filled_none, filled_more}
 use Rattle.table.specs.Fill.{all_nodes}

@@ -1,6 +1,7 @@
 -- `table_prepare::nodes::list_all` meets its contract. The loop's invariant: the entries before v are the nodes, and the others as they were.
 -- The measure is how many are left. Assumes nothing.
-use Rattle.base_lists.specs.Kit.{◌≡◌, ◌++◌, ◌≤◌, ◌-◌, length, drop}
+use Rattle.std.specs.Prelude.{◌≡◌, ◌++◌, ◌≤◌, ◌-◌}
+use Rattle.base_lists.specs.Kit.{length, drop}
 use Rattle.base_lists.specs.List.{tabulate}
 use Rattle.table_prepare.proofs.nodes.list_all.Given as goal
 
