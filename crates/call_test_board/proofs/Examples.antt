@@ -1,7 +1,6 @@
 -- Two loads from their four numbers to their bytes: one that tells start from end and every draw from another, and one in which the same pair is drawn
 -- five times. Assumes nothing.
-use Rattle.std.specs.Prelude.{◌≡◌, ◌∷◌}
-use Rattle.base_lists.specs.Kit.{refl, []}
+use Rattle.base_lists.specs.Kit.{◌≡◌, refl, [], ◌∷◌}
 use Rattle.base_lists.specs.Below.{collect}
 use Rattle.base_lists.specs.List.{any_below, tabulate}
 use Rattle.graph.specs.Pairs.{pair_test, pair_starts, pair_ends}

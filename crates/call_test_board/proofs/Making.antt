@@ -1,6 +1,5 @@
 -- The test board's circuit as the passes leave it, its file, and what the call comes to by cases. Assumes nothing.
-use Rattle.std.specs.Prelude.{◌≡◌, ◌&&◌, ◌++◌, ◌≤◌, ◌<◌, ◌+◌, ◌*◌}
-use Rattle.base_lists.specs.Kit.{◌∙◌, sym, ap, refl, ap₂, false, true, List, [], ℕ, le_trans, T, eqb, leb, le→leb, length, get_or, take, get_or-append, take_at, arith, le-ltb, lt-ltb}
+use Rattle.base_lists.specs.Kit.{◌≡◌, ◌∙◌, sym, ap, refl, ap₂, false, true, ◌&&◌, List, [], ◌++◌, ℕ, ◌≤◌, ◌<◌, ◌+◌, ◌*◌, le_trans, T, eqb, leb, le→leb, length, get_or, take, get_or-append, take_at, arith, le-ltb, lt-ltb}
 use Rattle.base_lists.proofs.Tests.{T_true, both_true}
 use Rattle.base_lists.proofs.Below.{any_below-same}
 use Rattle.graph.specs.Circuit.{Circuit}

@@ -1,6 +1,5 @@
 -- What the promise of the call for a test board means, of its own reply and bytes. Assumes nothing.
-use Rattle.std.specs.Prelude.{◌≡◌, ◌↔◌, ◌∷◌, ◌++◌, ◌≤◌, ◌<◌}
-use Rattle.base_lists.specs.Kit.{◌∙◌, sym, ap, refl, List, [], ℕ, length, take, drop, take_at, drop_at, arith, not-false, ltb-false}
+use Rattle.base_lists.specs.Kit.{◌≡◌, ◌∙◌, sym, ap, refl, ◌↔◌, List, [], ◌∷◌, ◌++◌, ℕ, ◌≤◌, ◌<◌, length, take, drop, take_at, drop_at, arith, not-false, ltb-false}
 use Rattle.base_lists.proofs.Tests.{true-T, T_true, T_false}
 use Rattle.graph.specs.Circuit.{Circuit, HasLink}
 use Rattle.file_format.specs.declared.Edition.TheVariants.{First}
