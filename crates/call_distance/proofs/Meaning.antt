@@ -12,8 +12,6 @@ use Rattle.file_format.specs.declared.Role.TheVariants.{Pattern, Board}
 use Rattle.file_format.specs.Layout.{CircuitFile, nodes_of, links_of, starts_of, ends_of}
 use Rattle.file_format.specs.Refusals.{accept, first, file_conditions, asks_connected}
 use Rattle.file_format.proofs.Refusals.{accepted, accepted-links, range-orders, range-bounds}
-use Rattle.call_distance.specs.declared.RadiusAnswer.TheVariants as radius-answer
-use Rattle.call_distance.specs.declared.BallAnswer.TheVariants as ball-answer
 use Rattle.call_distance.specs.Calls.{radius_call, ball_call, BallOutcome, file_graph}
 use Rattle.call_distance.proofs.Cases.{radius-replied, ball-filled}
 
