@@ -2,7 +2,6 @@
 // bound.
 #![tactic(auto)]
 
-
 // The masks of a pattern in one direction: for each bound from 1 to 4, for each of 32 parts the parts that it has a
 // link of that bound to.
 pub const WAY_MASKS: usize = 128;

@@ -41,11 +41,10 @@ pub loop-i-smaller : goal.loop-i-smaller
 loop-i-smaller c = omega arith
 
 pub loop-i-preserved : goal.loop-i-preserved
-loop-i-preserved c =
-    (
-      omega arith,
-      union-next c.args.sets.now c.args.numbers.now c.loop-i.union c.loop-i.i (omega arith) ∙ c.loop-i.invariant.1,
-    )
+loop-i-preserved c = (
+  omega arith,
+  union-next c.args.sets.now c.args.numbers.now c.loop-i.union c.loop-i.i (omega arith) ∙ c.loop-i.invariant.1,
+)
 
 pub returns : goal.returns
 returns c =

@@ -28,12 +28,11 @@ pub loop-left-smaller : goal.loop-left-smaller
 loop-left-smaller c = and-pred-lt c.loop-left.left (omega arith)
 
 pub loop-left-preserved : goal.loop-left-preserved
-loop-left-preserved c =
-    (
-      omega (arith, and-pred-lt c.loop-left.left (omega arith)),
-      union_over-turn c.args.masks.now c.loop-left.union c.loop-left.left (omega arith) (omega arith)
-          ∙ c.loop-left.invariant.1,
-    )
+loop-left-preserved c = (
+  omega (arith, and-pred-lt c.loop-left.left (omega arith)),
+  union_over-turn c.args.masks.now c.loop-left.union c.loop-left.left (omega arith) (omega arith)
+      ∙ c.loop-left.invariant.1,
+)
 
 pub returns : goal.returns
 returns c =

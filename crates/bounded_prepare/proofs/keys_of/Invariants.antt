@@ -10,7 +10,6 @@ use Rattle.bounded_prepare.proofs.keys_of.Given as goal
 unfoldable pub key : List ℕ → List ℕ → ℕ → ℕ
 key bounds parts i = key_at (get_or bounds i 0) (get_or parts i 0)
 
-
 abbrev pub invariant-loop-i : goal.invariant-loop-i
 invariant-loop-i l = (l.i ≤ length l.initial.keys) × (length l.keys ≡ length l.initial.keys) × (l.keys ≡ tabulate l.i (key l.bounds l.parts) ++ drop l.i l.initial.keys)
 

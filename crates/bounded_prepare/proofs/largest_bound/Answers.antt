@@ -17,17 +17,20 @@ loop-i-smaller c = omega arith
 
 pub loop-i-preserved : goal.loop-i-preserved
 loop-i-preserved c =
-    elim c.if-top-bounds.branch [ then-top-bounds w ↦ (
-      omega arith,
-      omega (arith, c.loop-i.invariant.1, w.if-top-bounds.true, w.top-is),
-      omega (arith, c.requires.most c.loop-i.i (omega arith), w.top-is),
-      below_more (λ j. get_or c.args.bounds.now j 0 ≤ c.if-top-bounds.top) c.loop-i.i (λ j h. omega (arith, c.loop-i.invariant.3 j h, w.if-top-bounds.true, w.top-is)) (omega (arith, w.top-is)),
-    ) | else-top-bounds w ↦ (
-      omega arith,
-      omega (arith, c.loop-i.invariant.1, w.top-is),
-      omega (arith, c.loop-i.invariant.2, w.top-is),
-      below_more (λ j. get_or c.args.bounds.now j 0 ≤ c.if-top-bounds.top) c.loop-i.i (λ j h. omega (arith, c.loop-i.invariant.3 j h, w.top-is)) (omega (arith, w.if-top-bounds.false, w.top-is)),
-    ) ]
+    elim c.if-top-bounds.branch [
+      | then-top-bounds w ↦ (
+        omega arith,
+        omega (arith, c.loop-i.invariant.1, w.if-top-bounds.true, w.top-is),
+        omega (arith, c.requires.most c.loop-i.i (omega arith), w.top-is),
+        below_more (λ j. get_or c.args.bounds.now j 0 ≤ c.if-top-bounds.top) c.loop-i.i (λ j h. omega (arith, c.loop-i.invariant.3 j h, w.if-top-bounds.true, w.top-is)) (omega (arith, w.top-is)),
+      )
+      | else-top-bounds w ↦ (
+        omega arith,
+        omega (arith, c.loop-i.invariant.1, w.top-is),
+        omega (arith, c.loop-i.invariant.2, w.top-is),
+        below_more (λ j. get_or c.args.bounds.now j 0 ≤ c.if-top-bounds.top) c.loop-i.i (λ j h. omega (arith, c.loop-i.invariant.3 j h, w.top-is)) (omega (arith, w.if-top-bounds.false, w.top-is)),
+      )
+    ]
 
 pub overflow_cast-result : goal.overflow_cast-result
 overflow_cast-result c = omega (arith, c.loop-i.invariant.2)

@@ -4,10 +4,10 @@ use Rattle.call_open.proofs.open.Goals as goal
 
 pub read_prepared-read-requires : goal.read_prepared-read-requires
 read_prepared-read-requires c = record {
-      as_pattern = record { nodes = refl; links = refl };
-      pk_len = (refl, refl);
-      masks_len = c.requires.masks_len;
-    }
+  as_pattern = record { nodes = refl; links = refl };
+  pk_len = (refl, refl);
+  masks_len = c.requires.masks_len;
+}
 
 pub fill_lines-requires : goal.fill_lines-requires
 fill_lines-requires c =

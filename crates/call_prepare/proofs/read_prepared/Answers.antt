@@ -15,11 +15,10 @@ use Rattle.call_prepare.proofs.read_prepared.Goals as goal
 use Rattle.call_prepare.proofs.read_prepared.Goals.{In-Accepted}
 
 pub read_pair-read-requires : goal.read_pair-read-requires
-read_pair-read-requires c =
-    (
-      record { for_kinds = omega (arith, c.requires.as_pattern.nodes, c.requires.pk_len.0); for_starts = omega (arith, c.requires.as_pattern.links); for_ends = omega (arith, c.requires.as_pattern.links) },
-      record { for_kinds = omega (arith, c.requires.pk_len.1); for_starts = search rules; for_ends = search rules },
-    )
+read_pair-read-requires c = (
+  record { for_kinds = omega (arith, c.requires.as_pattern.nodes, c.requires.pk_len.0); for_starts = omega (arith, c.requires.as_pattern.links); for_ends = omega (arith, c.requires.as_pattern.links) },
+  record { for_kinds = omega (arith, c.requires.pk_len.1); for_starts = search rules; for_ends = search rules },
+)
 
 pub returns-in_default : goal.returns-in_default
 returns-in_default c = pair-turned c.read_pair-read.ensures c.in_default.is

@@ -1,4 +1,3 @@
-
 use Rattle.std.specs.Prelude.{◌≡◌, ◌++◌}
 use Rattle.base_lists.specs.Kit.{refl, subst, ℕ, drop, length-set, arith}
 use Rattle.file_format.proofs.Fields.{stored-none, stored_more}

@@ -1,4 +1,3 @@
-
 use Rattle.std.specs.Prelude.{◌≡◌, ◌++◌, ◌≤◌, ◌-◌}
 use Rattle.base_lists.specs.Kit.{length, drop}
 use Rattle.file_format.specs.Layout.{fields}

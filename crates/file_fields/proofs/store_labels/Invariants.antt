@@ -10,7 +10,6 @@ use Rattle.file_fields.proofs.store_labels.Given as goal
 unfoldable pub label_at : List ℕ → ℕ → List ℕ → ℕ → ℕ → ℕ
 label_at kinds k packages p v = label (get_or (fields kinds k) v 0) (get_or (fields packages p) v 0)
 
-
 abbrev pub invariant-loop-i : goal.invariant-loop-i
 invariant-loop-i l = (l.i ≤ l.k) × (length l.out ≡ length l.initial.out) × (l.out ≡ tabulate l.i (label_at l.kinds l.k l.packages l.p) ++ drop l.i l.initial.out)
 

@@ -4,6 +4,6 @@ use Rattle.file_fields.proofs.store_two.Goals as goal
 
 pub returns : goal.returns
 returns c = record {
-      first_after = c.store_at.ensures;
-      second_after = c.store_at-2.ensures;
-    }
+  first_after = c.store_at.ensures;
+  second_after = c.store_at-2.ensures;
+}

@@ -27,11 +27,10 @@ pub loop-i-smaller : goal.loop-i-smaller
 loop-i-smaller c = omega arith
 
 pub loop-i-preserved : goal.loop-i-preserved
-loop-i-preserved c =
-    (
-      omega arith,
-      elim c.if-most-next.branch [ then-most-next w ↦ subst (λ (most : ℕ). Greatest c.args.numbers.now (c.loop-i.i + 1) most) (sym w.most-is) (greatest-next c.args.numbers.now c.loop-i.i c.loop-i.most c.loop-i.invariant.1 w.if-most-next.true) | else-most-next w ↦ subst (λ (most : ℕ). Greatest c.args.numbers.now (c.loop-i.i + 1) most) (sym w.most-is) (greatest-stays c.args.numbers.now c.loop-i.i c.loop-i.most c.loop-i.invariant.1 w.if-most-next.false) ],
-    )
+loop-i-preserved c = (
+  omega arith,
+  elim c.if-most-next.branch [ then-most-next w ↦ subst (λ (most : ℕ). Greatest c.args.numbers.now (c.loop-i.i + 1) most) (sym w.most-is) (greatest-next c.args.numbers.now c.loop-i.i c.loop-i.most c.loop-i.invariant.1 w.if-most-next.true) | else-most-next w ↦ subst (λ (most : ℕ). Greatest c.args.numbers.now (c.loop-i.i + 1) most) (sym w.most-is) (greatest-stays c.args.numbers.now c.loop-i.i c.loop-i.most c.loop-i.invariant.1 w.if-most-next.false) ],
+)
 
 pub overflow_cast-result : goal.overflow_cast-result
 overflow_cast-result c = omega (arith, c.loop-i.invariant.1.is, c.type_inv.numbers c.loop-i.invariant.1.place)

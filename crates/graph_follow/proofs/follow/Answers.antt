@@ -25,14 +25,13 @@ pub loop-i-smaller : goal.loop-i-smaller
 loop-i-smaller c = omega arith
 
 pub loop-i-preserved : goal.loop-i-preserved
-loop-i-preserved c =
-    (
-      omega arith,
-      c.look-tail.auto.dist ∙ c.loop-i.invariant.1,
-      c.look-tail.auto.queue ∙ c.loop-i.invariant.2,
-      c.look-tail.ensures.kept,
-      follow-next c.args.set c.args.sets.now c.args.d _ _ c.args.part.now c.loop-i.i (omega arith) c.look-tail.ensures.state ∙ c.loop-i.invariant.4,
-    )
+loop-i-preserved c = (
+  omega arith,
+  c.look-tail.auto.dist ∙ c.loop-i.invariant.1,
+  c.look-tail.auto.queue ∙ c.loop-i.invariant.2,
+  c.look-tail.ensures.kept,
+  follow-next c.args.set c.args.sets.now c.args.d _ _ c.args.part.now c.loop-i.i (omega arith) c.look-tail.ensures.state ∙ c.loop-i.invariant.4,
+)
 
 pub returns : goal.returns
 returns c =

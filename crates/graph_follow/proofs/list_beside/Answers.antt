@@ -35,16 +35,15 @@ pub loop-i-smaller : goal.loop-i-smaller
 loop-i-smaller c = omega arith
 
 pub loop-i-preserved : goal.loop-i-preserved
-loop-i-preserved c =
-    (
-      omega (arith, c.loop-i-test.true),
-      c.wake_beside-tail.auto.marks ∙ c.loop-i.invariant.1,
-      c.wake_beside-tail.auto.todo ∙ c.loop-i.invariant.2,
-      c.wake_beside-tail.ensures.kept,
-      level-next (nodes_beside c.args.offsets.now c.args.targets.now c.args.sets.now) 0 _ _ c.args.changed.now c.loop-i.i _ (omega (arith, c.loop-i-test.true)) refl
-          c.wake_beside-tail.ensures.state
-          ∙ c.loop-i.invariant.4,
-    )
+loop-i-preserved c = (
+  omega (arith, c.loop-i-test.true),
+  c.wake_beside-tail.auto.marks ∙ c.loop-i.invariant.1,
+  c.wake_beside-tail.auto.todo ∙ c.loop-i.invariant.2,
+  c.wake_beside-tail.ensures.kept,
+  level-next (nodes_beside c.args.offsets.now c.args.targets.now c.args.sets.now) 0 _ _ c.args.changed.now c.loop-i.i _ (omega (arith, c.loop-i-test.true)) refl
+      c.wake_beside-tail.ensures.state
+      ∙ c.loop-i.invariant.4,
+)
 
 pub shape_of-marks : goal.shape_of-marks
 shape_of-marks c = c.loop-i.invariant.1

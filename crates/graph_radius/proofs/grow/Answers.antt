@@ -34,12 +34,11 @@ pub loop-u-smaller : goal.loop-u-smaller
 loop-u-smaller c = omega arith
 
 pub loop-u-preserved : goal.loop-u-preserved
-loop-u-preserved c =
-    (
-      omega arith,
-      simp length-set c.loop-u.invariant.1,
-      rw (c.loop-u.invariant.2, c.union_of.ensures) (filled_more _ _ _ (omega arith)),
-    )
+loop-u-preserved c = (
+  omega arith,
+  simp length-set c.loop-u.invariant.1,
+  rw (c.loop-u.invariant.2, c.union_of.ensures) (filled_more _ _ _ (omega arith)),
+)
 
 pub shape_of-new : goal.shape_of-new
 shape_of-new c = c.loop-u.invariant.1

@@ -23,9 +23,9 @@ measure-requires c =
     let size = cut c.args.n c.requires.starts_len.1 in record {
       starts_len = (c.requires.starts_len.0, omega (arith, size, c.requires.starts_len.1));
       t = (
-          subst (λ (k : ℕ). T (all (λ v. ltb v k) c.args.starts.now)) (sym size) c.requires.t.0,
-          subst (λ (k : ℕ). T (all (λ v. ltb v k) c.args.ends.now)) (sym size) c.requires.t.1,
-        );
+        subst (λ (k : ℕ). T (all (λ v. ltb v k) c.args.starts.now)) (sym size) c.requires.t.0,
+        subst (λ (k : ℕ). T (all (λ v. ltb v k) c.args.ends.now)) (sym size) c.requires.t.1,
+      );
       len = (refl, refl);
     }
 

@@ -28,12 +28,11 @@ pub loop-u-smaller : goal.loop-u-smaller
 loop-u-smaller c = omega arith
 
 pub loop-u-preserved : goal.loop-u-preserved
-loop-u-preserved c =
-    (
-      omega arith,
-      simp length-set c.loop-u.invariant.1,
-      rw (c.loop-u.invariant.2, c.single.ensures) (filled_more _ _ _ (omega arith)),
-    )
+loop-u-preserved c = (
+  omega arith,
+  simp length-set c.loop-u.invariant.1,
+  rw (c.loop-u.invariant.2, c.single.ensures) (filled_more _ _ _ (omega arith)),
+)
 
 pub shape_of-sets : goal.shape_of-sets
 shape_of-sets c = c.loop-u.invariant.1

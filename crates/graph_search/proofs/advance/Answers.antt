@@ -38,9 +38,9 @@ loop-tail-preserved c =
 -- ---- there are enough
 pub returns : goal.returns
 returns c = record {
-      searching_2 = c.loop-tail.invariant.kept;
-      advanced = going-enough c.loop-tail.invariant _ c.loop-tail-test.false;
-    }
+  searching_2 = c.loop-tail.invariant.kept;
+  advanced = going-enough c.loop-tail.invariant _ c.loop-tail-test.false;
+}
 
 pub shape_of-dist-then-ended : goal.shape_of-dist-then-ended
 shape_of-dist-then-ended c = c.loop-tail.invariant.long

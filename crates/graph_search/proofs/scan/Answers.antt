@@ -24,15 +24,14 @@ pub loop-i-smaller : goal.loop-i-smaller
 loop-i-smaller c = omega arith
 
 pub loop-i-preserved : goal.loop-i-preserved
-loop-i-preserved c =
-    (
-      omega arith,
-      c.visit-tail.auto.dist ∙ c.loop-i.invariant.1,
-      c.visit-tail.auto.queue ∙ c.loop-i.invariant.2,
-      c.visit-tail.ensures.kept,
-      scan-next c.args.d _ _ c.args.part.now c.loop-i.i (omega arith) c.visit-tail.ensures.state
-          ∙ c.loop-i.invariant.4,
-    )
+loop-i-preserved c = (
+  omega arith,
+  c.visit-tail.auto.dist ∙ c.loop-i.invariant.1,
+  c.visit-tail.auto.queue ∙ c.loop-i.invariant.2,
+  c.visit-tail.ensures.kept,
+  scan-next c.args.d _ _ c.args.part.now c.loop-i.i (omega arith) c.visit-tail.ensures.state
+      ∙ c.loop-i.invariant.4,
+)
 
 pub returns : goal.returns
 returns c =

@@ -53,13 +53,12 @@ loop-left-smaller c =
     omega (arith, c.without_first-left.ensures, without-lt c.loop-left.left (omega arith) (word (goal.at.loop-left-smaller c).At-loop-left))
 
 pub loop-left-preserved : goal.loop-left-preserved
-loop-left-preserved c =
-    (
-      omega (arith, c.without_first-left.ensures, without-lt c.loop-left.left (omega arith) (word (goal.at.loop-left-preserved c).At-loop-left)),
-      ap (leader_among c.args.table.now c.args.u) c.without_first-left.ensures
-          ∙ sym (among_next c.args.table.now c.args.u c.loop-left.left (omega arith) (word (goal.at.loop-left-preserved c).At-loop-left) (asked (goal.at.loop-left-preserved c).After-has ∙ c.if-has.false))
-          ∙ c.loop-left.invariant.1,
-    )
+loop-left-preserved c = (
+  omega (arith, c.without_first-left.ensures, without-lt c.loop-left.left (omega arith) (word (goal.at.loop-left-preserved c).At-loop-left)),
+  ap (leader_among c.args.table.now c.args.u) c.without_first-left.ensures
+      ∙ sym (among_next c.args.table.now c.args.u c.loop-left.left (omega arith) (word (goal.at.loop-left-preserved c).At-loop-left) (asked (goal.at.loop-left-preserved c).After-has ∙ c.if-has.false))
+      ∙ c.loop-left.invariant.1,
+)
 
 pub returns : goal.returns
 returns c =

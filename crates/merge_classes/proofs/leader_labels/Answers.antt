@@ -46,15 +46,18 @@ turned :
     × (c.if-leader-u.next ≡ count_below (c.loop-u.u + 1) (is_leader (length c.args.table.now) c.args.table.now))
     × (c.if-leader-u.out ≡ sets c.args.out.now 0 (kinds_before c.args.table.now c.args.labels.now (c.loop-u.u + 1)))
 turned c =
-    elim c.if-leader-u.branch [ then-leader-u w ↦ let leads = leads-itself c.args.table.now c.loop-u.u c.leader.result c.leader.ensures w.if-leader-u.true in (
-      ap length w.out-is ∙ simp length-set c.loop-u.invariant.1,
-      w.next-is ∙ ap (λ (k : ℕ). k + 1) c.loop-u.invariant.2 ∙ count-leader c.args.table.now c.loop-u.u leads,
-      w.out-is ∙ ap₂ (λ (out : List ℕ) (k : ℕ). set out k (get_or c.args.labels.now c.loop-u.u 0)) c.loop-u.invariant.3 c.loop-u.invariant.2 ∙ kinds-leader c.args.table.now c.args.labels.now c.args.out.now c.loop-u.u leads,
-    ) | else-leader-u w ↦ let other = follows c.args.table.now c.loop-u.u c.leader.result c.leader.ensures w.if-leader-u.false in (
-      ap length w.out-is ∙ c.loop-u.invariant.1,
-      w.next-is ∙ c.loop-u.invariant.2 ∙ count-follower c.args.table.now c.loop-u.u other,
-      w.out-is ∙ c.loop-u.invariant.3 ∙ ap (sets c.args.out.now 0) (kinds-follower c.args.table.now c.args.labels.now c.loop-u.u other),
-    ) ]
+    elim c.if-leader-u.branch [
+      | then-leader-u w ↦ let leads = leads-itself c.args.table.now c.loop-u.u c.leader.result c.leader.ensures w.if-leader-u.true in (
+        ap length w.out-is ∙ simp length-set c.loop-u.invariant.1,
+        w.next-is ∙ ap (λ (k : ℕ). k + 1) c.loop-u.invariant.2 ∙ count-leader c.args.table.now c.loop-u.u leads,
+        w.out-is ∙ ap₂ (λ (out : List ℕ) (k : ℕ). set out k (get_or c.args.labels.now c.loop-u.u 0)) c.loop-u.invariant.3 c.loop-u.invariant.2 ∙ kinds-leader c.args.table.now c.args.labels.now c.args.out.now c.loop-u.u leads,
+      )
+      | else-leader-u w ↦ let other = follows c.args.table.now c.loop-u.u c.leader.result c.leader.ensures w.if-leader-u.false in (
+        ap length w.out-is ∙ c.loop-u.invariant.1,
+        w.next-is ∙ c.loop-u.invariant.2 ∙ count-follower c.args.table.now c.loop-u.u other,
+        w.out-is ∙ c.loop-u.invariant.3 ∙ ap (sets c.args.out.now 0) (kinds-follower c.args.table.now c.args.labels.now c.loop-u.u other),
+      )
+    ]
 
 pub loop-u-preserved : goal.loop-u-preserved
 loop-u-preserved c = (omega arith, (turned (goal.at.loop-u-preserved c).Joined-leader-u).0, (turned (goal.at.loop-u-preserved c).Joined-leader-u).1, (turned (goal.at.loop-u-preserved c).Joined-leader-u).2)

@@ -48,17 +48,20 @@ turned :
     × (c.if-v-u.next ≡ count_below (c.loop-u.u + 1) (is_leader (length c.args.table.now) c.args.table.now))
     × (c.if-v-u.classes ≡ numbered c.args.table.now (c.loop-u.u + 1) c.args.classes.now)
 turned c =
-    elim c.if-v-u.branch [ then-v-u w ↦ let leads = leads-itself c.args.table.now c.loop-u.u c.leader-v.result c.leader-v.ensures w.if-v-u.true in (
-      ap length w.classes-is ∙ simp length-set c.loop-u.invariant.1,
-      w.next-is ∙ ap (λ (k : ℕ). k + 1) c.loop-u.invariant.2 ∙ count-leader c.args.table.now c.loop-u.u leads,
-      w.classes-is ∙ ap₂ (λ (classes : List ℕ) (k : ℕ). set classes c.loop-u.u k) c.loop-u.invariant.3 c.loop-u.invariant.2 ∙ numbered-leader c.args.table.now c.args.classes.now c.loop-u.u (omega arith) leads,
-    ) | else-v-u w ↦ let other = follows c.args.table.now c.loop-u.u c.leader-v.result c.leader-v.ensures w.if-v-u.false in (
-      ap length w.classes-is ∙ simp length-set c.loop-u.invariant.1,
-      w.next-is ∙ c.loop-u.invariant.2 ∙ count-follower c.args.table.now c.loop-u.u other,
-      w.classes-is
-          ∙ ap₂ (λ (classes : List ℕ) (v : ℕ). set classes c.loop-u.u (get_or classes v 0)) c.loop-u.invariant.3 c.leader-v.ensures
-          ∙ numbered-follower c.args.table.now c.requires.self_table.led c.args.classes.now c.loop-u.u (omega arith) (omega arith) other,
-    ) ]
+    elim c.if-v-u.branch [
+      | then-v-u w ↦ let leads = leads-itself c.args.table.now c.loop-u.u c.leader-v.result c.leader-v.ensures w.if-v-u.true in (
+        ap length w.classes-is ∙ simp length-set c.loop-u.invariant.1,
+        w.next-is ∙ ap (λ (k : ℕ). k + 1) c.loop-u.invariant.2 ∙ count-leader c.args.table.now c.loop-u.u leads,
+        w.classes-is ∙ ap₂ (λ (classes : List ℕ) (k : ℕ). set classes c.loop-u.u k) c.loop-u.invariant.3 c.loop-u.invariant.2 ∙ numbered-leader c.args.table.now c.args.classes.now c.loop-u.u (omega arith) leads,
+      )
+      | else-v-u w ↦ let other = follows c.args.table.now c.loop-u.u c.leader-v.result c.leader-v.ensures w.if-v-u.false in (
+        ap length w.classes-is ∙ simp length-set c.loop-u.invariant.1,
+        w.next-is ∙ c.loop-u.invariant.2 ∙ count-follower c.args.table.now c.loop-u.u other,
+        w.classes-is
+            ∙ ap₂ (λ (classes : List ℕ) (v : ℕ). set classes c.loop-u.u (get_or classes v 0)) c.loop-u.invariant.3 c.leader-v.ensures
+            ∙ numbered-follower c.args.table.now c.requires.self_table.led c.args.classes.now c.loop-u.u (omega arith) (omega arith) other,
+      )
+    ]
 
 pub loop-u-preserved : goal.loop-u-preserved
 loop-u-preserved c = (omega arith, (turned (goal.at.loop-u-preserved c).Joined-v-u).0, (turned (goal.at.loop-u-preserved c).Joined-v-u).1, (turned (goal.at.loop-u-preserved c).Joined-v-u).2)

@@ -15,10 +15,10 @@ content c = sound-content _ _ _ c.requires.ends_value
 
 pub quotient-size-requires : goal.quotient-size-requires
 quotient-size-requires c = record {
-      ends_value = c.requires.ends_value;
-      classes_len = c.requires.classes_len.0;
-      in_bounds = (lit≤ tt, lit≤ tt, lit≤ tt);
-    }
+  ends_value = c.requires.ends_value;
+  classes_len = c.requires.classes_len.0;
+  in_bounds = (lit≤ tt, lit≤ tt, lit≤ tt);
+}
 
 -- each front has the size that was counted
 size :

@@ -70,10 +70,10 @@ find-place-requires c =
       k_in_bounds = (short (goal.at.find-place-requires c).After-search-k, record { pattern = _; board = _; radius = _; sought = seek (goal.at.find-place-requires c).After-start-p c.requires.some_tabled.part_starts c.requires.some_tabled.part_ends c.requires.some_tabled.node_starts c.requires.some_tabled.node_ends _ c.search-k.ensures c.requires.some_tabled.tabled });
       started_value = c.start-p.ensures.size;
       dist_len = (
-          length-take-le _ _ (few (goal.at.find-place-requires c).Start) ∙ sym sets,
-          c.search-k.auto.queue ∙ c.requires.dist_len.1 ∙ sym sets,
-          c.requires.sets_len.1 ∙ sym sets,
-        );
+        length-take-le _ _ (few (goal.at.find-place-requires c).Start) ∙ sym sets,
+        c.search-k.auto.queue ∙ c.requires.dist_len.1 ∙ sym sets,
+        c.requires.sets_len.1 ∙ sym sets,
+      );
     }
 
 pub counted-requires : goal.counted-requires

@@ -41,9 +41,9 @@ loop-tail-preserved c =
 -- ---- there are enough
 pub returns : goal.returns
 returns c = record {
-      searching = c.loop-tail.invariant.kept;
-      until = rw (← c.requires.sets_len.0) (until-enough c.loop-tail.invariant c.loop-tail-test.false);
-    }
+  searching = c.loop-tail.invariant.kept;
+  until = rw (← c.requires.sets_len.0) (until-enough c.loop-tail.invariant c.loop-tail-test.false);
+}
 
 pub shape_of-dist-then-ended : goal.shape_of-dist-then-ended
 shape_of-dist-then-ended c = c.loop-tail.invariant.long ∙ c.requires.sets_len.0

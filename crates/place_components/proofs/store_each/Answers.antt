@@ -36,12 +36,11 @@ pub loop-i-smaller : goal.loop-i-smaller
 loop-i-smaller c = omega arith
 
 pub loop-i-preserved : goal.loop-i-preserved
-loop-i-preserved c =
-    (
-      omega arith,
-      length-set c.loop-i.table (get_or c.args.nodes.now c.loop-i.i 0) _ ∙ c.loop-i.invariant.1,
-      fill-next _ c.args.nodes.now c.loop-i.table c.loop-i.i (omega arith) ∙ c.loop-i.invariant.2,
-    )
+loop-i-preserved c = (
+  omega arith,
+  length-set c.loop-i.table (get_or c.args.nodes.now c.loop-i.i 0) _ ∙ c.loop-i.invariant.1,
+  fill-next _ c.args.nodes.now c.loop-i.table c.loop-i.i (omega arith) ∙ c.loop-i.invariant.2,
+)
 
 pub shape_of-table : goal.shape_of-table
 shape_of-table c = c.loop-i.invariant.1

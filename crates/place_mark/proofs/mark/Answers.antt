@@ -8,16 +8,16 @@ mark_nodes-requires c = rw c.requires.nodes_len.0 c.requires.node_list.below
 
 pub mark_links-requires : goal.mark_links-requires
 mark_links-requires c = record {
-      ready = c.requires.ready;
-      node_list = c.requires.node_list;
-      links_fit = c.requires.links_fit;
-    }
+  ready = c.requires.ready;
+  node_list = c.requires.node_list;
+  links_fit = c.requires.links_fit;
+}
 
 pub copy-requires : goal.copy-requires
 copy-requires c = record {
-      node_list = rw c.requires.nodes_len.1 c.requires.node_list;
-      below = c.requires.node_list.below;
-    }
+  node_list = rw c.requires.nodes_len.1 c.requires.node_list;
+  below = c.requires.node_list.below;
+}
 
 pub returns : goal.returns
 returns c =

@@ -10,7 +10,6 @@ use Rattle.place_mark.proofs.mark_ends.Given as goal
 abbrev pub byte : List ℕ → ℕ → List ℕ → List ℕ → ℕ → ℕ
 byte ends driven sets bytes k = cond (intersects driven (get_or sets (get_or ends k 0) 0)) 1 (get_or bytes k 0)
 
-
 abbrev pub invariant-loop-k : goal.invariant-loop-k
 invariant-loop-k l =
     (l.k ≤ length l.ends) × (length l.bytes ≡ length l.initial.bytes) × (l.bytes ≡ tabulate l.k (byte l.ends l.driven l.sets l.initial.bytes) ++ drop l.k l.initial.bytes)

@@ -30,14 +30,13 @@ pub loop-i-smaller : goal.loop-i-smaller
 loop-i-smaller c = omega arith
 
 pub loop-i-preserved : goal.loop-i-preserved
-loop-i-preserved c =
-    (
-      omega arith,
-      c.mark_start.auto.bytes ∙ c.loop-i.invariant.1,
-      ap (mark_starts ((tables c.args.masks.now c.args.offsets.now c.args.targets.now)) c.args.sets.now _) c.mark_start.ensures
-          ∙ starts-next ((tables c.args.masks.now c.args.offsets.now c.args.targets.now)) c.args.sets.now c.args.list.now c.loop-i.bytes c.loop-i.i (omega arith)
-          ∙ c.loop-i.invariant.2,
-    )
+loop-i-preserved c = (
+  omega arith,
+  c.mark_start.auto.bytes ∙ c.loop-i.invariant.1,
+  ap (mark_starts ((tables c.args.masks.now c.args.offsets.now c.args.targets.now)) c.args.sets.now _) c.mark_start.ensures
+      ∙ starts-next ((tables c.args.masks.now c.args.offsets.now c.args.targets.now)) c.args.sets.now c.args.list.now c.loop-i.bytes c.loop-i.i (omega arith)
+      ∙ c.loop-i.invariant.2,
+)
 
 pub returns : goal.returns
 returns c =

@@ -12,11 +12,11 @@ use Rattle.proposal_check.proofs.near.Goals.{After-search}
 
 pub neighbour_tables-requires : goal.neighbour_tables-requires
 neighbour_tables-requires c = record {
-      net_room = c.requires.net_room;
-      n_bound = c.requires.nodes_len_bound.0;
-      starts_len = c.requires.starts_len;
-      t = c.requires.t;
-    }
+  net_room = c.requires.net_room;
+  n_bound = c.requires.nodes_len_bound.0;
+  starts_len = c.requires.starts_len;
+  t = c.requires.t;
+}
 
 pub slice_bounds-search-end : goal.slice_bounds-search-end
 slice_bounds-search-end c = sym (length-take-le _ _ c.requires.nodes_len_bound.0)
@@ -26,10 +26,14 @@ slice_bounds-search-end-2 c = sym (length-take-le _ _ c.requires.nodes_len_bound
 
 pub search-requires : goal.search-requires
 search-requires c =
-    record { net = (length-take-for (length c.args.nodes.now) _ (λ k. Net k c.neighbour_tables.new.offsets c.neighbour_tables.new.targets × ((c.args.around.centre < k) × (k ≡ k))) c.requires.nodes_len_bound.0
-    (net-of c.neighbour_tables.ensures, (c.requires.nodes_len_bound.1, refl))).0; c_in_bounds = (length-take-for (length c.args.nodes.now) _ (λ k. Net k c.neighbour_tables.new.offsets c.neighbour_tables.new.targets × ((c.args.around.centre < k) × (k ≡ k))) c.requires.nodes_len_bound.0
-    (net-of c.neighbour_tables.ensures, (c.requires.nodes_len_bound.1, refl))).1.0; dist_len = (length-take-for (length c.args.nodes.now) _ (λ k. Net k c.neighbour_tables.new.offsets c.neighbour_tables.new.targets × ((c.args.around.centre < k) × (k ≡ k))) c.requires.nodes_len_bound.0
-    (net-of c.neighbour_tables.ensures, (c.requires.nodes_len_bound.1, refl))).1.1 }
+    record {
+      net = (length-take-for (length c.args.nodes.now) _ (λ k. Net k c.neighbour_tables.new.offsets c.neighbour_tables.new.targets × ((c.args.around.centre < k) × (k ≡ k))) c.requires.nodes_len_bound.0
+          (net-of c.neighbour_tables.ensures, (c.requires.nodes_len_bound.1, refl))).0;
+      c_in_bounds = (length-take-for (length c.args.nodes.now) _ (λ k. Net k c.neighbour_tables.new.offsets c.neighbour_tables.new.targets × ((c.args.around.centre < k) × (k ≡ k))) c.requires.nodes_len_bound.0
+          (net-of c.neighbour_tables.ensures, (c.requires.nodes_len_bound.1, refl))).1.0;
+      dist_len = (length-take-for (length c.args.nodes.now) _ (λ k. Net k c.neighbour_tables.new.offsets c.neighbour_tables.new.targets × ((c.args.around.centre < k) × (k ≡ k))) c.requires.nodes_len_bound.0
+          (net-of c.neighbour_tables.ensures, (c.requires.nodes_len_bound.1, refl))).1.1;
+    }
 
 -- the search leaves a distance for each node
 long : (c : After-search) → length c.search.new.dist ≡ length c.args.nodes.now

@@ -6,9 +6,12 @@ use Rattle.session_strike.proofs.look.Goals as goal
 
 pub returns-then-set-set_at : goal.returns-then-set-set_at
 returns-then-set-set_at c =
-    record { sets_after = (look-same c.args.masks.now (moves_in c.args.offsets.now c.args.numbers.now c.args.ends.now) c.args.sets.now c.args.v c.args.marks.now
-    (sym c.next_set-set.ensures ∙ c.if-set-set_at.true ∙ c.set_at.ensures)).0; marks_after = (look-same c.args.masks.now (moves_in c.args.offsets.now c.args.numbers.now c.args.ends.now) c.args.sets.now c.args.v c.args.marks.now
-    (sym c.next_set-set.ensures ∙ c.if-set-set_at.true ∙ c.set_at.ensures)).1 }
+    record {
+      sets_after = (look-same c.args.masks.now (moves_in c.args.offsets.now c.args.numbers.now c.args.ends.now) c.args.sets.now c.args.v c.args.marks.now
+          (sym c.next_set-set.ensures ∙ c.if-set-set_at.true ∙ c.set_at.ensures)).0;
+      marks_after = (look-same c.args.masks.now (moves_in c.args.offsets.now c.args.numbers.now c.args.ends.now) c.args.sets.now c.args.v c.args.marks.now
+          (sym c.next_set-set.ensures ∙ c.if-set-set_at.true ∙ c.set_at.ensures)).1;
+    }
 
 pub returns-then-v-sets : goal.returns-then-v-sets
 returns-then-v-sets c =

@@ -19,15 +19,14 @@ pub loop-j-smaller : goal.loop-j-smaller
 loop-j-smaller c = omega arith
 
 pub loop-j-preserved : goal.loop-j-preserved
-loop-j-preserved c =
-    (
-      omega arith,
-      c.mark_one.auto.marks ∙ c.loop-j.invariant.1,
-      ap (λ (m : List ℕ). mark_all c.args.n m (beyond c.args.ends.now (drop (c.loop-j.j + 1) c.args.numbers.now)))
-          (c.mark_one.ensures ∙ ap (mark_one c.args.n c.loop-j.marks) c.end_of.ensures)
-          ∙ marks-next c.args.n c.args.ends.now c.args.numbers.now c.loop-j.marks c.loop-j.j (omega arith)
-          ∙ c.loop-j.invariant.2,
-    )
+loop-j-preserved c = (
+  omega arith,
+  c.mark_one.auto.marks ∙ c.loop-j.invariant.1,
+  ap (λ (m : List ℕ). mark_all c.args.n m (beyond c.args.ends.now (drop (c.loop-j.j + 1) c.args.numbers.now)))
+      (c.mark_one.ensures ∙ ap (mark_one c.args.n c.loop-j.marks) c.end_of.ensures)
+      ∙ marks-next c.args.n c.args.ends.now c.args.numbers.now c.loop-j.marks c.loop-j.j (omega arith)
+      ∙ c.loop-j.invariant.2,
+)
 
 pub shape_of-marks : goal.shape_of-marks
 shape_of-marks c = c.loop-j.invariant.1 ∙ sym c.requires.1

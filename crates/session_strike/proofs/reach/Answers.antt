@@ -18,14 +18,13 @@ pub loop-j-smaller : goal.loop-j-smaller
 loop-j-smaller c = omega arith
 
 pub loop-j-preserved : goal.loop-j-preserved
-loop-j-preserved c =
-    (
-      omega arith,
-      ap (λ (x : ℕ). bit_or (bit_or c.loop-j.union x) (union_at c.args.sets.now (beyond c.args.ends.now (drop (c.loop-j.j + 1) c.args.numbers.now))))
-          (c.set_at-union.ensures ∙ ap (λ (w : ℕ). get_or c.args.sets.now w 0) c.end_of.ensures)
-          ∙ union-next c.args.sets.now c.args.ends.now c.args.numbers.now c.loop-j.union c.loop-j.j (omega arith)
-          ∙ c.loop-j.invariant.1,
-    )
+loop-j-preserved c = (
+  omega arith,
+  ap (λ (x : ℕ). bit_or (bit_or c.loop-j.union x) (union_at c.args.sets.now (beyond c.args.ends.now (drop (c.loop-j.j + 1) c.args.numbers.now))))
+      (c.set_at-union.ensures ∙ ap (λ (w : ℕ). get_or c.args.sets.now w 0) c.end_of.ensures)
+      ∙ union-next c.args.sets.now c.args.ends.now c.args.numbers.now c.loop-j.union c.loop-j.j (omega arith)
+      ∙ c.loop-j.invariant.1,
+)
 
 pub returns : goal.returns
 returns c =

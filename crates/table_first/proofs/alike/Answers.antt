@@ -26,13 +26,15 @@ pub loop-u-smaller : goal.loop-u-smaller
 loop-u-smaller c = omega arith
 
 pub loop-u-preserved : goal.loop-u-preserved
-loop-u-preserved c =
-    (
-      omega arith,
-      elim c.if-kinds_agree.branch [ then-kinds_agree w ↦ w.set-is
-          ∙ ap₂ bit_or c.loop-u.invariant.1 w.single-set.ensures
-          ∙ number-insert c.loop-u.u (λ x. kinds_agree (get_or c.args.part_labels.now x 0) c.args.kind) (sym c.kinds_agree.ensures ∙ w.if-kinds_agree.true) | else-kinds_agree w ↦ w.set-is ∙ c.loop-u.invariant.1 ∙ number-skip c.loop-u.u (λ x. kinds_agree (get_or c.args.part_labels.now x 0) c.args.kind) (sym c.kinds_agree.ensures ∙ w.if-kinds_agree.false) ],
-    )
+loop-u-preserved c = (
+  omega arith,
+  elim c.if-kinds_agree.branch [
+    | then-kinds_agree w ↦ w.set-is
+        ∙ ap₂ bit_or c.loop-u.invariant.1 w.single-set.ensures
+        ∙ number-insert c.loop-u.u (λ x. kinds_agree (get_or c.args.part_labels.now x 0) c.args.kind) (sym c.kinds_agree.ensures ∙ w.if-kinds_agree.true)
+    | else-kinds_agree w ↦ w.set-is ∙ c.loop-u.invariant.1 ∙ number-skip c.loop-u.u (λ x. kinds_agree (get_or c.args.part_labels.now x 0) c.args.kind) (sym c.kinds_agree.ensures ∙ w.if-kinds_agree.false)
+  ],
+)
 
 pub returns : goal.returns
 returns c =

@@ -20,10 +20,10 @@ node c = c.requires.below c.loop-i.i (omega arith)
 
 pub strike_node-set-requires : goal.strike_node-set-requires
 strike_node-set-requires c = record {
-      one_way_value = c.requires.one_way_value;
-      ready = c.requires.ready;
-      v_in_bounds = node (goal.at.strike_node-set-requires c).In-loop-i;
-    }
+  one_way_value = c.requires.one_way_value;
+  ready = c.requires.ready;
+  v_in_bounds = node (goal.at.strike_node-set-requires c).In-loop-i;
+}
 
 pub offset_bounds-old-v : goal.offset_bounds-old-v
 offset_bounds-old-v c = omega (arith, node (goal.at.offset_bounds-old-v c).In-loop-i, c.type_inv.todo c.loop-i.i)
@@ -42,13 +42,12 @@ pub loop-i-smaller : goal.loop-i-smaller
 loop-i-smaller c = omega arith
 
 pub loop-i-preserved : goal.loop-i-preserved
-loop-i-preserved c =
-    (
-      c.note_change-k.auto.changed ∙ c.loop-i.invariant.0,
-      c.note_change-k.auto.next ∙ c.loop-i.invariant.1,
-      listing-next _ _ c.loop-i.invariant.2 (omega arith) (omega (arith, c.loop-i.invariant.0, c.requires.todo_in_bounds.0, c.loop-i.invariant.2.few))
-          (omega (arith, c.loop-i.invariant.1, c.requires.todo_in_bounds.1, c.loop-i.invariant.2.few)) refl c.strike_node-set.ensures refl c.note_change-k.ensures,
-    )
+loop-i-preserved c = (
+  c.note_change-k.auto.changed ∙ c.loop-i.invariant.0,
+  c.note_change-k.auto.next ∙ c.loop-i.invariant.1,
+  listing-next _ _ c.loop-i.invariant.2 (omega arith) (omega (arith, c.loop-i.invariant.0, c.requires.todo_in_bounds.0, c.loop-i.invariant.2.few))
+      (omega (arith, c.loop-i.invariant.1, c.requires.todo_in_bounds.1, c.loop-i.invariant.2.few)) refl c.strike_node-set.ensures refl c.note_change-k.ensures,
+)
 
 pub returns : goal.returns
 returns c = listing-end _ _ c.loop-i.invariant.2 c.loop-i-test.false

@@ -37,12 +37,11 @@ pub loop-i-smaller : goal.loop-i-smaller
 loop-i-smaller c = omega arith
 
 pub loop-i-preserved : goal.loop-i-preserved
-loop-i-preserved c =
-    (
-      omega arith,
-      length-set c.loop-i.marks (get_or c.args.todo.now c.loop-i.i 0) far ∙ c.loop-i.invariant.1,
-      fill-next c.args.todo.now c.loop-i.marks c.loop-i.i (omega arith) ∙ c.loop-i.invariant.2,
-    )
+loop-i-preserved c = (
+  omega arith,
+  length-set c.loop-i.marks (get_or c.args.todo.now c.loop-i.i 0) far ∙ c.loop-i.invariant.1,
+  fill-next c.args.todo.now c.loop-i.marks c.loop-i.i (omega arith) ∙ c.loop-i.invariant.2,
+)
 
 pub shape_of-marks : goal.shape_of-marks
 shape_of-marks c = c.loop-i.invariant.1

@@ -24,14 +24,13 @@ pub loop-i-smaller : goal.loop-i-smaller
 loop-i-smaller c = omega arith
 
 pub loop-i-preserved : goal.loop-i-preserved
-loop-i-preserved c =
-    (
-      omega arith,
-      simp length-set c.loop-i.invariant.1,
-      c.draw-drawn.ensures.0 ∙ ap step c.loop-i.invariant.2 ∙ sym (stepped-next c.args.s c.loop-i.i),
-      ap₂ (λ (l : List ℕ) (v : ℕ). set l c.loop-i.i v) c.loop-i.invariant.3 (c.draw-drawn.ensures.1 ∙ ap (λ (s : ℕ). draw c.args.k (step s)) c.loop-i.invariant.2)
-          ∙ draws-more c.args.s c.args.k c.loop-i.i c.args.out.now (omega arith),
-    )
+loop-i-preserved c = (
+  omega arith,
+  simp length-set c.loop-i.invariant.1,
+  c.draw-drawn.ensures.0 ∙ ap step c.loop-i.invariant.2 ∙ sym (stepped-next c.args.s c.loop-i.i),
+  ap₂ (λ (l : List ℕ) (v : ℕ). set l c.loop-i.i v) c.loop-i.invariant.3 (c.draw-drawn.ensures.1 ∙ ap (λ (s : ℕ). draw c.args.k (step s)) c.loop-i.invariant.2)
+      ∙ draws-more c.args.s c.args.k c.loop-i.i c.args.out.now (omega arith),
+)
 
 pub shape_of-out : goal.shape_of-out
 shape_of-out c = c.loop-i.invariant.1

@@ -12,7 +12,6 @@ use Rattle.bounded_layer.proofs.layer.widen.Given as goal
 unfoldable pub further : (ℕ → List ℕ) → List ℕ → List ℕ → ℕ → ℕ
 further near old layer v = bit_or (get_or old v 0) (union_at layer (near v))
 
-
 abbrev pub invariant-loop-v : goal.invariant-loop-v
 invariant-loop-v l =
     (l.v ≤ length l.initial.next) × (length l.next ≡ length l.initial.next) × (l.next ≡ tabulate l.v (further (neighbours_in l.direction l.offsets l.targets) l.old l.layer) ++ drop l.v l.initial.next)

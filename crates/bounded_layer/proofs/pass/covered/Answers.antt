@@ -51,16 +51,18 @@ joined c =
     let h : c.loop-left.left < 2 ^ 32 = omega arith in
     let u : c.first-u.result ≡ first_of c.loop-left.left = c.first-u.ensures in
     let first = ap (λ (x : ℕ). subset_of (get_or c.args.masks.now x 0) c.args.f) (sym u) ∙ sym c.subset.ensures in
-    elim c.if-subset.branch [ then-subset w ↦ ap (λ (k : ℕ). bit_or k rest) (w.kept-is ∙ ap (bit_or c.loop-left.kept) (w.single-kept.ensures ∙ ap (λ (x : ℕ). 2 ^ x) u))
-    ∙ turn-stays c.args.masks.now c.args.f c.loop-left.left p h c.loop-left.kept (first ∙ w.if-subset.true)
-    ∙ c.loop-left.invariant.1 | else-subset w ↦ ap (λ (k : ℕ). bit_or k rest) w.kept-is ∙ turn-goes c.args.masks.now c.args.f c.loop-left.left p h c.loop-left.kept (first ∙ w.if-subset.false) ∙ c.loop-left.invariant.1 ]
+    elim c.if-subset.branch [
+      | then-subset w ↦ ap (λ (k : ℕ). bit_or k rest) (w.kept-is ∙ ap (bit_or c.loop-left.kept) (w.single-kept.ensures ∙ ap (λ (x : ℕ). 2 ^ x) u))
+          ∙ turn-stays c.args.masks.now c.args.f c.loop-left.left p h c.loop-left.kept (first ∙ w.if-subset.true)
+          ∙ c.loop-left.invariant.1
+      | else-subset w ↦ ap (λ (k : ℕ). bit_or k rest) w.kept-is ∙ turn-goes c.args.masks.now c.args.f c.loop-left.left p h c.loop-left.kept (first ∙ w.if-subset.false) ∙ c.loop-left.invariant.1
+    ]
 
 pub loop-left-preserved : goal.loop-left-preserved
-loop-left-preserved c =
-    (
-      omega (arith, c.without_first-left.ensures, without-lt c.loop-left.left (omega arith) (omega arith)),
-      ap (λ (x : ℕ). bit_or c.if-subset.kept (kept_within c.args.masks.now c.args.f x)) c.without_first-left.ensures ∙ joined (goal.at.loop-left-preserved c).Joined-subset,
-    )
+loop-left-preserved c = (
+  omega (arith, c.without_first-left.ensures, without-lt c.loop-left.left (omega arith) (omega arith)),
+  ap (λ (x : ℕ). bit_or c.if-subset.kept (kept_within c.args.masks.now c.args.f x)) c.without_first-left.ensures ∙ joined (goal.at.loop-left-preserved c).Joined-subset,
+)
 
 pub returns : goal.returns
 returns c =

@@ -12,7 +12,6 @@ use Rattle.bounded_layer.proofs.pass.pass.Given as goal
 unfoldable pub left : (ℕ → List ℕ) → List ℕ → List ℕ → List ℕ → ℕ → ℕ
 left near masks layer new v = kept_within masks (union_at layer (near v)) (get_or new v 0)
 
-
 abbrev pub invariant-loop-v : goal.invariant-loop-v
 invariant-loop-v l =
     (l.v ≤ length l.initial.new) × (length l.new ≡ length l.initial.new) × (l.new ≡ tabulate l.v (left (neighbours_in l.direction l.offsets l.targets) l.masks l.layer l.initial.new) ++ drop l.v l.initial.new)

@@ -48,14 +48,13 @@ loop-i-smaller c = omega arith
 
 pub loop-i-preserved : goal.loop-i-preserved
 unfolding kind_in package_in
-loop-i-preserved c =
-    (
-      omega arith,
-      simp length-set c.loop-i.invariant.1,
-      simp length-set c.loop-i.invariant.2,
-      rw c.loop-i.invariant.3 (filled_more _ _ _ (omega arith)),
-      rw c.loop-i.invariant.4 (filled_more _ _ _ (omega arith)),
-    )
+loop-i-preserved c = (
+  omega arith,
+  simp length-set c.loop-i.invariant.1,
+  simp length-set c.loop-i.invariant.2,
+  rw c.loop-i.invariant.3 (filled_more _ _ _ (omega arith)),
+  rw c.loop-i.invariant.4 (filled_more _ _ _ (omega arith)),
+)
 
 pub shape_of-kinds : goal.shape_of-kinds
 shape_of-kinds c = c.loop-i.invariant.1

@@ -59,17 +59,16 @@ group-requires-2 c =
 
 -- what was filled is as long as a half
 aft : (c : After-group-2) → (length c.group-2.new.offsets ≡ 513) × (length c.group-2.new.table ≡ 4096)
-aft c =
-    (
-      c.group-2.auto.offsets ∙ length-aft 513 c.group.new.offsets c.args.offsets.now ((let fact : (length c.group.new.offsets ≡ 513) × (length c.group.new.table ≡ 4096) = (
-  c.group.auto.offsets ∙ length-take-le 513 c.args.offsets.now (omega (arith, ((let fact : (513 + 513 ≤ length c.args.offsets.now) × (4096 + 4096 ≤ length c.args.targets.now) = (omega (arith, c.requires.net_room.in_offsets), omega (arith, c.requires.net_room.in_targets)) in fact)).0)),
-  c.group.auto.table ∙ length-take-le 4096 c.args.targets.now (omega (arith, ((let fact : (513 + 513 ≤ length c.args.offsets.now) × (4096 + 4096 ≤ length c.args.targets.now) = (omega (arith, c.requires.net_room.in_offsets), omega (arith, c.requires.net_room.in_targets)) in fact)).1)),
-) in fact)).0 ((let fact : (513 + 513 ≤ length c.args.offsets.now) × (4096 + 4096 ≤ length c.args.targets.now) = (omega (arith, c.requires.net_room.in_offsets), omega (arith, c.requires.net_room.in_targets)) in fact)).0,
-      c.group-2.auto.table ∙ length-aft 4096 c.group.new.table c.args.targets.now ((let fact : (length c.group.new.offsets ≡ 513) × (length c.group.new.table ≡ 4096) = (
-  c.group.auto.offsets ∙ length-take-le 513 c.args.offsets.now (omega (arith, ((let fact : (513 + 513 ≤ length c.args.offsets.now) × (4096 + 4096 ≤ length c.args.targets.now) = (omega (arith, c.requires.net_room.in_offsets), omega (arith, c.requires.net_room.in_targets)) in fact)).0)),
-  c.group.auto.table ∙ length-take-le 4096 c.args.targets.now (omega (arith, ((let fact : (513 + 513 ≤ length c.args.offsets.now) × (4096 + 4096 ≤ length c.args.targets.now) = (omega (arith, c.requires.net_room.in_offsets), omega (arith, c.requires.net_room.in_targets)) in fact)).1)),
-) in fact)).1 ((let fact : (513 + 513 ≤ length c.args.offsets.now) × (4096 + 4096 ≤ length c.args.targets.now) = (omega (arith, c.requires.net_room.in_offsets), omega (arith, c.requires.net_room.in_targets)) in fact)).1,
-    )
+aft c = (
+  c.group-2.auto.offsets ∙ length-aft 513 c.group.new.offsets c.args.offsets.now ((let fact : (length c.group.new.offsets ≡ 513) × (length c.group.new.table ≡ 4096) = (
+    c.group.auto.offsets ∙ length-take-le 513 c.args.offsets.now (omega (arith, ((let fact : (513 + 513 ≤ length c.args.offsets.now) × (4096 + 4096 ≤ length c.args.targets.now) = (omega (arith, c.requires.net_room.in_offsets), omega (arith, c.requires.net_room.in_targets)) in fact)).0)),
+    c.group.auto.table ∙ length-take-le 4096 c.args.targets.now (omega (arith, ((let fact : (513 + 513 ≤ length c.args.offsets.now) × (4096 + 4096 ≤ length c.args.targets.now) = (omega (arith, c.requires.net_room.in_offsets), omega (arith, c.requires.net_room.in_targets)) in fact)).1)),
+  ) in fact)).0 ((let fact : (513 + 513 ≤ length c.args.offsets.now) × (4096 + 4096 ≤ length c.args.targets.now) = (omega (arith, c.requires.net_room.in_offsets), omega (arith, c.requires.net_room.in_targets)) in fact)).0,
+  c.group-2.auto.table ∙ length-aft 4096 c.group.new.table c.args.targets.now ((let fact : (length c.group.new.offsets ≡ 513) × (length c.group.new.table ≡ 4096) = (
+    c.group.auto.offsets ∙ length-take-le 513 c.args.offsets.now (omega (arith, ((let fact : (513 + 513 ≤ length c.args.offsets.now) × (4096 + 4096 ≤ length c.args.targets.now) = (omega (arith, c.requires.net_room.in_offsets), omega (arith, c.requires.net_room.in_targets)) in fact)).0)),
+    c.group.auto.table ∙ length-take-le 4096 c.args.targets.now (omega (arith, ((let fact : (513 + 513 ≤ length c.args.offsets.now) × (4096 + 4096 ≤ length c.args.targets.now) = (omega (arith, c.requires.net_room.in_offsets), omega (arith, c.requires.net_room.in_targets)) in fact)).1)),
+  ) in fact)).1 ((let fact : (513 + 513 ≤ length c.args.offsets.now) × (4096 + 4096 ≤ length c.args.targets.now) = (omega (arith, c.requires.net_room.in_offsets), omega (arith, c.requires.net_room.in_targets)) in fact)).1,
+)
 
 pub shape_of-offsets : goal.shape_of-offsets
 shape_of-offsets c =

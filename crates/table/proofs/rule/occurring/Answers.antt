@@ -26,11 +26,10 @@ pub loop-v-smaller : goal.loop-v-smaller
 loop-v-smaller c = omega arith
 
 pub loop-v-preserved : goal.loop-v-preserved
-loop-v-preserved c =
-    (
-      omega arith,
-      union-next c.args.table.now c.loop-v.union c.loop-v.v (omega arith) ∙ c.loop-v.invariant.1,
-    )
+loop-v-preserved c = (
+  omega arith,
+  union-next c.args.table.now c.loop-v.union c.loop-v.v (omega arith) ∙ c.loop-v.invariant.1,
+)
 
 pub returns : goal.returns
 returns c =

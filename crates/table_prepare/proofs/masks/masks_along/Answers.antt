@@ -14,9 +14,9 @@ slice_bounds-half_of-end-2 c = sym (half c.args.masks.now c.requires.masks_len)
 
 pub half_of-requires : goal.half_of-requires
 half_of-requires c = record {
-      keys_len = c.requires.starts_len;
-      out_len = half c.args.masks.now c.requires.masks_len;
-    }
+  keys_len = c.requires.starts_len;
+  out_len = half c.args.masks.now c.requires.masks_len;
+}
 
 -- ---- the second half
 half-2 : (xs masks : List ℕ) → length xs ≡ 32 → length masks ≡ 64 → length (take 32 (drop 32 (xs ++ drop 32 masks))) ≡ 32
