@@ -1,20 +1,13 @@
 -- The next piece starts at an item of the report, and as many centres before it have a place as are counted. The measure is how many items are left.
 use Rattle.base_lists.specs.Kit.{◌≡◌, ◌≤◌, ◌-◌, length}
 use Rattle.file_format.specs.Layout.{first_edition}
-use Rattle.table.specs.Prepared.{tables}
 use Rattle.report.specs.Lines.{longest_line}
 use Rattle.report_answer.specs.Whole.{items_of, places_of}
 use Rattle.finder_pieces.proofs.print_pieces.Given as goal
 
-abbrev pub ghost-put : goal.ghost-put
-ghost-put g a = tables a.masks.now a.offsets.now a.targets.now
-
-abbrev pub ghost-hand : goal.ghost-hand
-ghost-hand g a = (first_edition a.pattern.now, first_edition a.board.now)
-
 abbrev pub invariant-loop-part : goal.invariant-loop-part
-invariant-loop-part g l =
+invariant-loop-part l =
     (l.handed ≤ items_of (first_edition l.pattern) (first_edition l.board)) × (l.found ≡ places_of (first_edition l.pattern) (first_edition l.board) l.handed) × (longest_line ≤ length l.out)
 
 abbrev pub decreases-loop-part : goal.decreases-loop-part
-decreases-loop-part g l = items_of (first_edition l.pattern) (first_edition l.board) - l.handed
+decreases-loop-part l = items_of (first_edition l.pattern) (first_edition l.board) - l.handed
