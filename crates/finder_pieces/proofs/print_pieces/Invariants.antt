@@ -1,5 +1,5 @@
 -- The next piece starts at an item of the report, and as many centres before it have a place as are counted. The measure is how many items are left.
-use Rattle.base_lists.specs.Kit.{◌≡◌, ◌≤◌, ◌-◌, length}
+use Rattle.std.specs.Prelude.{◌≡◌, ◌≤◌, ◌-◌, length}
 use Rattle.file_format.specs.Layout.{first_edition}
 use Rattle.report.specs.Lines.{longest_line}
 use Rattle.report_answer.specs.Whole.{items_of, places_of}
