@@ -32,6 +32,7 @@ struct Run {
 }
 
 // How a run ends in which the report was begun.
+#[tactic(auto, unfolding(crate::specs::Run::report_end))]
 fn ended(whole: bool) -> End
     ensures { result ≡ report_end whole }
 {

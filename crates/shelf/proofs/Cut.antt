@@ -1,10 +1,10 @@
 -- Of a file the program reads at most a byte more than the longest that is accepted: the shelf of what is read so is the shelf of the files, for
 -- any list of byte strings. Assumes nothing.
-use mathlib.Core.List.{List, []}
-use mathlib.Core.Path.{◌≡◌, refl, sym, ap, ap₂, ◌∙◌}
-use Prim.Native.Nat.{ℕ}
-use lib.Dec.{T}
-use lib.ListN.{length, length-map, get_or-map}
+use Rattle.std.specs.Prelude.{List, [], length, ℕ, ◌≡◌}
+use Rattle.std.proofs.Common.{T, ap, refl, sym}
+use Rattle.std.proofs.Math.ListN.{get_or-map}
+use Rattle.std.proofs.lemmas.List.{length-map}
+use Rattle.std.proofs.Math.Path.{ap₂, ◌∙◌}
 use Rattle.file_format.specs.declared.Edition.TheVariants.{Second}
 use Rattle.file_format.specs.declared.Role.TheVariants.{Pattern}
 use Rattle.file_format.specs.Layout.{in_edition}

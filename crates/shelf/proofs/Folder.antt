@@ -1,11 +1,7 @@
 -- In any folder, where what was noted and read is what the folder has, what is printed is the text of its shelf. Assumes nothing.
-use mathlib.Core.Bool.{Bool, true, false, cond}
-use Rattle.std.proofs.Common.{List, [], ◌∷◌}
-use mathlib.Core.Path.{◌≡◌, refl, ap, ap₂, ◌∙◌}
-use Prim.Native.Nat.{ℕ, suc, ◌+◌}
-use native.Mathlib.Nat.{zero-add}
-use native.Mathlib.Omega.{arith}
-use lib.ListN.{length, take, drop, length-take}
+use Rattle.std.specs.Prelude.{Bool, List, [], cond, drop, false, length, suc, take, true, ℕ, ◌+◌, ◌∷◌, ◌≡◌}
+use Rattle.std.proofs.Common.{ap, arith, length-take, refl, zero-add}
+use Rattle.std.proofs.Math.Path.{ap₂, ◌∙◌}
 use Rattle.file_format.specs.declared.Edition.TheVariants.{Second}
 use Rattle.file_format.specs.declared.Role.TheVariants.{Pattern}
 use Rattle.file_format.specs.Cut.{cut}

@@ -1,10 +1,7 @@
 -- The numbers of a shelf and their text. Assumes nothing.
-use mathlib.Core.Bool.{Bool, true, false, cond}
-use Rattle.std.proofs.Common.{List, [], ◌∷◌}
-use mathlib.Core.Path.{◌≡◌, sym, ap, ◌∙◌}
-use Prim.Native.Nat.{ℕ, ◌*◌, ◌≤◌}
-use native.Mathlib.Omega.{arith}
-use Rattle.std.proofs.Common.{length, take, drop, length-append, length-take-le, take_all, take_at}
+use Rattle.std.specs.Prelude.{Bool, List, [], cond, drop, false, length, take, true, ℕ, ◌*◌, ◌∷◌, ◌≡◌, ◌≤◌}
+use Rattle.std.proofs.Common.{ap, arith, length-append, length-take-le, sym, take_all, take_at}
+use Rattle.std.proofs.Math.Path.{◌∙◌}
 use Rattle.base_text.specs.Text.{Put, Fits}
 use Rattle.base_text.proofs.Text.{put_whole}
 use Rattle.file_format.specs.Reading.{filled}

@@ -1,7 +1,5 @@
-use Rattle.std.specs.Prelude.{◌≡◌}
-use Rattle.base_lists.specs.Kit.{◌∙◌, sym, ap, length, take, arith}
+use Rattle.base_lists.specs.Kit.{◌∙◌, sym, ap, length}
 use Rattle.base_lists.proofs.Parts.{length-take-room}
-use Rattle.call_test_board.specs.Call.{test_board_bytes}
 use Rattle.loader.specs.Printing.{Handed}
 use Rattle.loader.proofs.Printing.{tried-told, made_range, made-prefix, made-size, refused-outside}
 use Rattle.loader.proofs.print_test_board.Goals as goal

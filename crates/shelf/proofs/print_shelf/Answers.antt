@@ -1,55 +1,54 @@
-use Rattle.std.proofs.Common.{sym, ap, length-take-le}
-use Rattle.std.proofs.Math.Path.{◌∙◌}
+use Rattle.std.proofs.Common.{sym, length-take-le}
 use Rattle.shelf.specs.Printing.{ShelfHanded}
 use Rattle.shelf_files.proofs.Reading.{few-files}
 use Rattle.shelf.proofs.Printing.{text-prefix, text-size, numbers-size, numbers-room, lines_fit, lines-printed, handed-prefix}
 use Rattle.shelf.proofs.print_shelf.Goals as goal
 
 pub slice_bounds-shelf-end : goal.slice_bounds-shelf-end
-slice_bounds-shelf-end g c = sym (length-take-le _ _ (few-files _ _ c.requires.1.0.1))
+slice_bounds-shelf-end c = sym (length-take-le _ _ (few-files _ _ c.requires.notes_len.1))
 
 pub returns-in_default : goal.returns-in_default
 unfolding ShelfHanded
-returns-in_default g c = c.requires.1.1.2
+returns-in_default c = c.requires.most_files_in_bounds.2
 
 pub slice_bounds-put_numbers-end : goal.slice_bounds-put_numbers-end
-slice_bounds-put_numbers-end g c =
+slice_bounds-put_numbers-end c =
     let r = c.requires in
-    numbers-room _ _ _ _ _ _ _ r.1.0.0 r.1.0.1 c.shelf-answer.ensures c.in-Ordered.is r.1.1.0 c.shelf-answer.auto.order
+    numbers-room _ _ _ _ _ _ _ r.notes_len.0 r.notes_len.1 c.shelf-answer.ensures c.in-Ordered.is r.most_files_in_bounds.0 c.shelf-answer.auto.order
 
 pub slice_bounds-put_numbers-end-2 : goal.slice_bounds-put_numbers-end-2
-slice_bounds-put_numbers-end-2 g c =
+slice_bounds-put_numbers-end-2 c =
     let r = c.requires in
-    sym (numbers-size _ _ _ _ _ _ _ r.1.0.0 r.1.0.1 c.shelf-answer.ensures c.in-Ordered.is)
+    sym (numbers-size _ _ _ _ _ _ _ r.notes_len.0 r.notes_len.1 c.shelf-answer.ensures c.in-Ordered.is)
 
 pub put_numbers-size-requires : goal.put_numbers-size-requires
-put_numbers-size-requires g c =
+put_numbers-size-requires c =
     let r = c.requires in
-    lines_fit _ _ _ _ _ _ _ r.1.0.0 r.1.0.1 c.shelf-answer.ensures c.in-Ordered.is _ r.1.1.1
+    lines_fit _ _ _ _ _ _ _ r.notes_len.0 r.notes_len.1 c.shelf-answer.ensures c.in-Ordered.is _ r.most_files_in_bounds.1
 
 pub slice_bounds-hand-end : goal.slice_bounds-hand-end
-slice_bounds-hand-end g c =
+slice_bounds-hand-end c =
     let r = c.requires in
-    let fits = lines_fit _ _ _ _ _ _ _ r.1.0.0 r.1.0.1 c.shelf-answer.ensures c.in-Ordered.is _ r.1.1.1 in
+    let fits = lines_fit _ _ _ _ _ _ _ r.notes_len.0 r.notes_len.1 c.shelf-answer.ensures c.in-Ordered.is _ r.most_files_in_bounds.1 in
     text-size c.put_numbers-size.ensures fits
 
 pub slice_bounds-hand-end-2 : goal.slice_bounds-hand-end-2
-slice_bounds-hand-end-2 g c =
+slice_bounds-hand-end-2 c =
     let r = c.requires in
-    let fits = lines_fit _ _ _ _ _ _ _ r.1.0.0 r.1.0.1 c.shelf-answer.ensures c.in-Ordered.is _ r.1.1.1 in
+    let fits = lines_fit _ _ _ _ _ _ _ r.notes_len.0 r.notes_len.1 c.shelf-answer.ensures c.in-Ordered.is _ r.most_files_in_bounds.1 in
     sym (length-take-le _ _ (text-size c.put_numbers-size.ensures fits))
 
 pub hand-requires : goal.hand-requires
-hand-requires g c =
+hand-requires c =
     let r = c.requires in
-    let fits = lines_fit _ _ _ _ _ _ _ r.1.0.0 r.1.0.1 c.shelf-answer.ensures c.in-Ordered.is _ r.1.1.1 in (
-      r.1.1.2,
-      lines-printed _ _ _ _ _ _ _ r.1.0.0 r.1.0.1 c.shelf-answer.ensures c.in-Ordered.is _ (text-prefix c.put_numbers-size.ensures fits),
+    let fits = lines_fit _ _ _ _ _ _ _ r.notes_len.0 r.notes_len.1 c.shelf-answer.ensures c.in-Ordered.is _ r.most_files_in_bounds.1 in (
+      r.most_files_in_bounds.2,
+      lines-printed _ _ _ _ _ _ _ r.notes_len.0 r.notes_len.1 c.shelf-answer.ensures c.in-Ordered.is _ (text-prefix c.put_numbers-size.ensures fits),
     )
 
 pub returns : goal.returns
-returns g c =
+returns c =
     let r = c.requires in
-    let fits = lines_fit _ _ _ _ _ _ _ r.1.0.0 r.1.0.1 c.shelf-answer.ensures c.in-Ordered.is _ r.1.1.1 in
-    let prefix = lines-printed _ _ _ _ _ _ _ r.1.0.0 r.1.0.1 c.shelf-answer.ensures c.in-Ordered.is _ (text-prefix c.put_numbers-size.ensures fits) in
-    handed-prefix _ _ _ _ _ (prefix ∙ r.0) (sym (length-take-le _ _ (text-size c.put_numbers-size.ensures fits))) c.hand.ensures
+    let fits = lines_fit _ _ _ _ _ _ _ r.notes_len.0 r.notes_len.1 c.shelf-answer.ensures c.in-Ordered.is _ r.most_files_in_bounds.1 in
+    let prefix = lines-printed _ _ _ _ _ _ _ r.notes_len.0 r.notes_len.1 c.shelf-answer.ensures c.in-Ordered.is _ (text-prefix c.put_numbers-size.ensures fits) in
+    handed-prefix _ _ _ _ _ prefix (sym (length-take-le _ _ (text-size c.put_numbers-size.ensures fits))) c.hand.ensures
