@@ -15,10 +15,10 @@ overflow_cast-around c = omega (arith, c.if-nk-centre.false, c.requires.1.nodes)
 
 pub bar_circuits-requires : goal.bar_circuits-requires
 bar_circuits-requires c = record {
-      bounded = c.requires;
-      centre_in_bounds = c.if-nk-centre.false;
-      part_starts_in_bounds = c.if-out-ps.false;
-    }
+  bounded = c.requires;
+  centre_in_bounds = c.if-nk-centre.false;
+  part_starts_in_bounds = c.if-out-ps.false;
+}
 
 pub returns : goal.returns
 returns c =
