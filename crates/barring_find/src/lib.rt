@@ -4,7 +4,7 @@
 ghost use Rattle.std.specs.Prelude.{◌≡◌, ◌≤◌, ◌<◌, length};
 ghost use Rattle.file_format.specs.Circuit.{Bounded};
 ghost use Rattle.file_format.specs.declared.Role.TheVariants as role;
-ghost use Rattle.graph.specs.Circuit.{Circuit, circuit};
+ghost use Rattle.graph.specs.Circuit.{circuit};
 ghost use Rattle.barring.specs.Outcome.{bar_reply, bar_around};
 ghost use Rattle.barring_find.specs.Ball.{SomeNetted, EveryListed};
 ghost use Rattle.barring_find.specs.Trial.{SomeTried, EveryAround};

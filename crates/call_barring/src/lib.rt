@@ -6,7 +6,7 @@ ghost use Rattle.std.specs.Prelude.{◌≡◌};
 ghost use Rattle.file_format.specs.Circuit.{Bounded};
 ghost use Rattle.file_format.specs.declared.Role.TheVariants as role;
 ghost use Rattle.file_format.specs.Layout.{in_edition};
-ghost use Rattle.graph.specs.Circuit.{Circuit, circuit};
+ghost use Rattle.graph.specs.Circuit.{circuit};
 ghost use Rattle.barring.specs.Outcome.{bar_reply};
 ghost use Rattle.call_barring.specs.Call.{bar_on, bar_call};
 

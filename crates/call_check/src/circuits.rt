@@ -1,7 +1,7 @@
 // Checking a proposed place on a pattern and a board that were read.
 ghost use Rattle.std.specs.Prelude.{◌≡◌, ◌<◌, length};
 ghost use Rattle.file_format.specs.Circuit.{Drawn};
-ghost use Rattle.graph.specs.Circuit.{Circuit, circuit};
+ghost use Rattle.graph.specs.Circuit.{circuit};
 ghost use Rattle.proposal.specs.Check.{checks};
 
 use graph::marked::choose;

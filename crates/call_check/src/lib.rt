@@ -5,7 +5,7 @@
 ghost use Rattle.std.specs.Prelude.{◌≡◌};
 ghost use Rattle.file_format.specs.Circuit.{Drawn};
 ghost use Rattle.file_format.specs.Layout.{in_edition};
-ghost use Rattle.graph.specs.Circuit.{Circuit, circuit};
+ghost use Rattle.graph.specs.Circuit.{circuit};
 ghost use Rattle.call_check.specs.Call.{check_answered, check_reply, check_on, check_call};
 
 use crate::circuits::check_circuits;

@@ -5,7 +5,7 @@
 ghost use Rattle.std.specs.Prelude.{◌≡◌, length};
 ghost use Rattle.graph.specs.Net.{NetRoom};
 ghost use Rattle.file_format.specs.Layout.{in_edition};
-ghost use Rattle.table.specs.Prepared.{Tables, tables};
+ghost use Rattle.table.specs.Prepared.{tables};
 ghost use Rattle.call_open.specs.Opened.{LinesRoom, SomePrepared, EveryOpened, Opened};
 
 use call_prepare::{Reading, read_prepared};

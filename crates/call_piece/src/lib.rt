@@ -1,9 +1,8 @@
 // A piece of the report of two files that were opened, put into a lent buffer.
 #![tactic(auto)]
 
-ghost use Rattle.std.specs.Prelude.{◌≡◌};
 ghost use Rattle.report_answer.specs.Call.{report_reply};
-ghost use Rattle.table.specs.Prepared.{Tables, tables};
+ghost use Rattle.table.specs.Prepared.{tables};
 ghost use Rattle.call_open.specs.Opened.{SomeOpened};
 ghost use Rattle.call_piece.specs.Reported.{EveryReported};
 

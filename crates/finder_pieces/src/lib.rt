@@ -2,8 +2,8 @@
 #![tactic(auto)]
 
 ghost use Rattle.std.specs.Prelude.{cond, ◌≡◌, ◌≤◌, length};
-ghost use Rattle.file_format.specs.Layout.{CircuitFile, first_edition};
-ghost use Rattle.table.specs.Prepared.{Tables, tables};
+ghost use Rattle.file_format.specs.Layout.{first_edition};
+ghost use Rattle.table.specs.Prepared.{tables};
 ghost use Rattle.report.specs.Lines.{longest_line};
 ghost use Rattle.call_open.specs.Opened.{Opened};
 ghost use Rattle.finder_pieces.specs.Handed.{GoesOn, ReportHanded};

@@ -2,7 +2,7 @@
 #![tactic(auto)]
 
 ghost use Rattle.std.specs.Prelude.{◌≡◌, ◌≤◌, length};
-ghost use Rattle.file_format.specs.Layout.{CircuitFile, first_edition};
+ghost use Rattle.file_format.specs.Layout.{first_edition};
 ghost use Rattle.report.specs.Lines.{longest_line};
 ghost use Rattle.finder_pieces.specs.Handed.{ReportHanded};
 

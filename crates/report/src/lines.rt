@@ -1,6 +1,6 @@
 // The report's lines, each put into a table of bytes from an offset on; the offset after the line is returned. `names`
 // has a name for each node.
-ghost use Rattle.std.specs.Prelude.{List, ◌≡◌, ℕ, ◌+◌, ◌≤◌, ◌<◌, length};
+ghost use Rattle.std.specs.Prelude.{◌≡◌, ◌+◌, ◌≤◌, ◌<◌, length};
 ghost use Rattle.base_text.specs.Text.{Put, Fits, Names};
 ghost use Rattle.table.specs.Prepared.{tables, Ready};
 ghost use Rattle.report.specs.Report.{end_line, refusal_line, file_word};

@@ -3,7 +3,7 @@
 
 ghost use Rattle.std.specs.Prelude.{◌≡◌, ◌+◌, ◌≤◌, ◌<◌, length};
 ghost use Rattle.base_text.specs.Text.{Names};
-ghost use Rattle.table.specs.Prepared.{Tables, tables};
+ghost use Rattle.table.specs.Prepared.{tables};
 ghost use Rattle.place.specs.Spread.{matched};
 ghost use Rattle.place_components.specs.Components.{Components};
 ghost use Rattle.report.specs.Lines.{longest_line};

@@ -4,7 +4,7 @@
 
 ghost use Rattle.std.specs.Prelude.{◌≡◌, ◌+◌, ◌≤◌, ◌<◌, length, get_or};
 ghost use Rattle.base_text.specs.Text.{Names};
-ghost use Rattle.table.specs.Prepared.{Tables, tables};
+ghost use Rattle.table.specs.Prepared.{tables};
 ghost use Rattle.report.specs.Lines.{longest_line};
 ghost use Rattle.report_locate.specs.Source.{SourceOfSome, CentreLabelled, BallHolds, EveryKnown, EveryLine};
 

@@ -3,7 +3,7 @@
 // follows is copied from where it stands in the buffer.
 #![tactic(auto)]
 
-ghost use Rattle.std.specs.Prelude.{cond, List, ◌++◌, ◌≡◌, ℕ, ◌+◌, ◌-◌, ◌≤◌, ◌<◌, length, get_or};
+ghost use Rattle.std.specs.Prelude.{cond, ◌++◌, ◌≡◌, ◌+◌, ◌-◌, ◌≤◌, ◌<◌, length, get_or};
 ghost use Rattle.base_lists.specs.List.{Below, part};
 ghost use Rattle.base_text.specs.Text.{Put, Fits, Names};
 ghost use Rattle.report_texts.specs.Texts.{node_text, link_text, driven_text, head_text, under, noting};

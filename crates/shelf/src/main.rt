@@ -5,7 +5,7 @@
 // them.
 #![tactic(auto)]
 
-ghost use Rattle.std.specs.Prelude.{cond, List, ◌≡◌, ℕ, ◌*◌, ◌≤◌, length};
+ghost use Rattle.std.specs.Prelude.{cond, ◌≡◌, ◌*◌, ◌≤◌, length};
 ghost use Rattle.call_shelf.specs.Shelf.{most_files};
 ghost use Rattle.shelf_files.specs.declared.Taken.TheVariants as taken;
 ghost use Rattle.shelf.specs.Printing.{printed_of, ShelfHanded, shelf_ended, ShelfRan};

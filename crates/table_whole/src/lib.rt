@@ -4,7 +4,7 @@
 ghost use Rattle.std.specs.Prelude.{◌≡◌, length};
 ghost use Rattle.file_format.specs.Circuit.{Bounded};
 ghost use Rattle.file_format.specs.declared.Role.TheVariants as role;
-ghost use Rattle.graph.specs.Circuit.{Circuit, circuit};
+ghost use Rattle.graph.specs.Circuit.{circuit};
 ghost use Rattle.table.specs.Refine.{MatchedBy};
 ghost use Rattle.table.specs.Row.{ways_of};
 ghost use Rattle.table_whole.specs.Kinds.{SomeLinks, EveryMatched, EveryAnswered};

@@ -1,6 +1,6 @@
 -- `base_text::put_number` meets its contract: at most three digits at once; else a tenth, and then the last digit. Assumes nothing.
 use Rattle.std.specs.Prelude.{◌/◌}
-use Rattle.base_lists.specs.Kit.{sym, arith, rules}
+use Rattle.base_lists.specs.Kit.{sym, arith}
 use Rattle.base_text.specs.Text.{decimal}
 use Rattle.base_text.proofs.Text.{put_then, put_same, fits-same, fits-first, fits-then, decimal-more}
 use Rattle.base_text.proofs.+put_number.Goals as goal

@@ -1,5 +1,5 @@
 use Rattle.base_lists.specs.Kit.{◌∙◌, sym, refl, arith}
-use Rattle.loader_words.proofs.Digits.{passed-next, passed-all, no_word, no_digit, too_large, digit-range}
+use Rattle.loader_words.proofs.Digits.{passed_none, passed-next, passed-all, no_word, no_digit, too_large, digit-range}
 use Rattle.loader_words.proofs.number.Goals as goal
 
 pub returns-then-size-lt1 : goal.returns-then-size-lt1
@@ -9,6 +9,9 @@ pub returns-then-not-is_digit : goal.returns-then-not-is_digit
 returns-then-not-is_digit c =
     no_digit c.args.word.now c.loop-i.value c.loop-i.i c.loop-i.invariant.1 (omega arith)
     (sym c.is_digit.ensures ∙ c.if-not-is_digit.true)
+
+pub loop-i-init : goal.loop-i-init
+loop-i-init c = (omega arith, passed_none _)
 
 pub overflow_sub-value : goal.overflow_sub-value
 overflow_sub-value c = (digit-range _ (sym c.is_digit.ensures ∙ c.if-not-is_digit.false)).0
