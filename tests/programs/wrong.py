@@ -34,12 +34,12 @@ class Wrong(NamedTuple):
 
 GAP_READ_OVER = """    let loaded = load(rt, i, &mut bytes[at..end]);
     let found = match loaded {
-        FileFound::Bytes(size) => FileFound::Bytes(size),
-        FileFound::Absent => FileFound::Bytes(0),
-        FileFound::Unreadable => FileFound::Unreadable,
+        Ok(size) => Ok(size),
+        Err(ReadError::Absent) => Ok(0),
+        Err(ReadError::Unreadable) => Err(ReadError::Unreadable),
     };"""
 EMPTY_FOR_A_GAP = """    if size == 0 {
-        return FileFound::Absent;
+        return Err(ReadError::Absent);
     }
     outcome(&mut file, size, buf.len())"""
 OPENED_AS_0 = """    match opened {
@@ -52,21 +52,21 @@ READS = """    let first = load(rt, Role::Pattern, "pattern.cir", &mut pattern[.
 NAMES_SWAPPED = """    let first = load(rt, Role::Pattern, "board.cir", &mut pattern[..]);
     let second = load(rt, Role::Board, "pattern.cir", &mut board[..]);
 """
-PIECE = "    let answer = output::write_whole(rt, failure, bytes);"
+PIECE = "    if output::write_whole(rt, failure, bytes).is_none() {"
 HANDED = "output::hand(rt, failure, handed, "
 FINDER = [
     Wrong("the two names swapped", "finder", READS, NAMES_SWAPPED, "finder_read"),
     Wrong("a line more", "finder", PIECE, '    let _more = output::write_whole(rt, failure, b"hello\\n");\n' + PIECE, "finder_pieces"),
     Wrong("silent", "finder", "    let run = report_files(", "    if true {\n        return;\n    }\n    let run = report_files("),
-    Wrong("nothing opened", "finder", "    as_read(input::load(rt, name, buf))", "    as_read(FileFound::Absent)", "finder_read"),
-    Wrong("nothing printed", "finder", PIECE, "    let answer = Output::Written(bytes.len());", "finder_pieces"),
+    Wrong("nothing opened", "finder", "    as_read(input::load(rt, name, buf))", "    as_read(Err(ReadError::Absent))", "finder_read"),
+    Wrong("nothing printed", "finder", PIECE, "    if false {", "finder_pieces"),
     Wrong("a piece twice", "finder", PIECE, "    let _once = output::write_whole(rt, failure, bytes);\n" + PIECE, "finder_pieces"),
 ]
 SHELF = [
     Wrong("the other standard stream", "shelf", "take_some(&rt.stdout(), ", "take_some(&rt.stderr(), ", "output"),
     Wrong("a file that opens taken for one that does not", "shelf", "    opened.is_ok()", "    opened.is_err()", "input"),
-    Wrong("silent", "shelf", "    shelve(\n", "    if true {\n        return;\n    }\n    shelve(\n"),
-    Wrong("nothing opened", "shelf", "    input::load(rt, name, buf)", "    FileFound::Absent", "shelf_files"),
+    Wrong("silent", "shelf", "    let _ended = shelve(\n", "    if true {\n        return;\n    }\n    let _ended = shelve(\n"),
+    Wrong("nothing opened", "shelf", "    input::load(rt, name, buf)", "    Err(ReadError::Absent)", "shelf_files"),
     Wrong("nothing printed", "shelf", HANDED + "text)", "true"),
     Wrong("the lines twice", "shelf", "    " + HANDED + "text)", "    let _once = output::write_whole(rt, failure, text);\n    " + HANDED + "text)"),
     Wrong("a line more", "shelf", "    " + HANDED + "text)", '    let _more = output::write_whole(rt, failure, b"99\\n");\n    ' + HANDED + "text)"),
@@ -129,7 +129,7 @@ def fail_reading(crates: pathlib.Path) -> None:
 
 
 CONDITIONS = [
-    (store_seventeen, Wrong("the 17th file read", "shelf", "    while i < FILES {", "    while i < FILES + 1 {", "shelf_files")),
+    (store_seventeen, Wrong("the 17th file read", "shelf", "    for i in 0..FILES {", "    for i in 0..FILES + 1 {", "shelf_files")),
     (store_long, Wrong("a full buffer read on, and another not", "shelf", "    if size == room {", "    if size != room {", "input")),
     (close_input, Wrong("a file that opens as 0 taken for unreadable", "shelf", "    opened.is_ok()", OPENED_AS_0, "input")),
     (fail_reading, Wrong("a last read of no byte", "shelf", "    let mut more = [0u8; 1];", "    let mut more = [0u8; 0];", "input")),

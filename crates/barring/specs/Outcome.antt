@@ -3,17 +3,10 @@ use Rattle.std.specs.Prelude.{◌∷◌}
 use Rattle.base_lists.specs.Kit.{List, [], ℕ}
 use Rattle.graph.specs.Circuit.{Circuit}
 use Rattle.file_format.specs.Reading.{filled}
-use Rattle.file_format.specs.Refusals.{Verdict, accept, refuse, first, centre_placed}
+use Rattle.file_format.specs.Refusals.{Verdict, first, centre_placed}
 use Rattle.file_format.specs.Reply.{Reply, reply}
 use Rattle.place.specs.Match.{found}
-use Rattle.barring.specs.declared.BarAnswer.{BarAnswer}
-use Rattle.barring.specs.declared.BarAnswer.TheVariants.{Kept, Refused}
 use Rattle.barring.specs.Least.{least, kept_count}
-
--- number, file and value of each case of the answer
-unfoldable pub bar_reply : BarAnswer → Reply
-bar_reply (Kept k) = record { verdict = accept; values = k ∷ [] }
-bar_reply (Refused x) = record { verdict = refuse x; values = [] }
 
 -- the reply, and the bytes as the call leaves them
 pub record BarOutcome : Type 0 where

@@ -1,19 +1,20 @@
 -- What a trial starts from, in the ball around a centre, and what it says. Whose kinds the first table is of need not be handed on: the contracts
 -- ask for some pattern and board, and promise for every one.
-use Rattle.std.specs.Prelude.{◌≡◌, ◌≤◌, ◌<◌}
+use Rattle.std.specs.Prelude.{◌≡◌, ◌≤◌, ◌<◌, Result}
 use Rattle.base_lists.specs.Kit.{Bool, List, ℕ, eqb, length, get_or}
 use Rattle.graph.specs.Circuit.{Circuit, circuit}
 use Rattle.graph.specs.Net.{NetOf}
+use Rattle.file_format.specs.declared.Refusal.{Refusal}
 use Rattle.file_format.specs.declared.Role.TheVariants as role
 use Rattle.file_format.specs.Circuit.{Bounded}
+use Rattle.file_format.specs.Reply.{number_reply}
 use Rattle.table.specs.Fill.{marks_of, NodeList, table_at}
 use Rattle.table.specs.First.{start_node}
 use Rattle.table.specs.Prepared.{Tables, Prepared}
 use Rattle.table.specs.Row.{last_table}
 use Rattle.place.specs.Match.{ball_of}
-use Rattle.barring.specs.declared.BarAnswer.{BarAnswer}
 use Rattle.barring.specs.Least.{bars, least}
-use Rattle.barring.specs.Outcome.{bar_reply, bar_around}
+use Rattle.barring.specs.Outcome.{bar_around}
 
 -- ---- striking from the pairs that agree
 
@@ -65,7 +66,7 @@ EveryLeast starts ends offsets targets w nodes first marks =
     marks ≡ least (circuit part_labels starts ends) board w r
 
 -- the answer, and what is left in the lent bytes
-abbrev pub EveryAround : List ℕ → List ℕ → List ℕ → List ℕ → ℕ → List ℕ → List ℕ → List ℕ → List ℕ → BarAnswer → Type 0
+abbrev pub EveryAround : List ℕ → List ℕ → List ℕ → List ℕ → ℕ → List ℕ → List ℕ → List ℕ → List ℕ → Result ℕ Refusal → Type 0
 EveryAround starts ends offsets targets w nodes first before after answer =
     (part_labels : List ℕ) (board : Circuit) (r : ℕ) → Tried (circuit part_labels starts ends) board offsets targets w r nodes first →
-    record { reply = bar_reply answer; out = after } ≡ bar_around (circuit part_labels starts ends) board w r before
+    record { reply = number_reply answer; out = after } ≡ bar_around (circuit part_labels starts ends) board w r before

@@ -3,7 +3,7 @@ ghost use Rattle.std.specs.Prelude.{◌≡◌, length};
 ghost use Rattle.barring_find.specs.Trial.{SomeTried, EveryLeast};
 
 use crate::trial::bars;
-use graph::marked::fill;
+use base_lists::fill;
 
 // Starts from all links, goes through them in their order, and drops each one without which the rest still bars: a byte
 // per link, 1 for kept.
@@ -23,12 +23,10 @@ pub fn drop_links(
         w nodes.now first.now marks.new }
 {
     fill(marks, 1);
-    let mut i = 0;
-    while i < marks.len() {
+    for i in 0..marks.len() {
         marks[i] = 0;
         if !bars(nodes, starts, ends, offsets, targets, first, w, marks) {
             marks[i] = 1;
         }
-        i += 1;
     }
 }

@@ -3,16 +3,16 @@
 
 ghost use Rattle.std.specs.Prelude.{◌≡◌, ◌≤◌, ◌<◌, length};
 ghost use Rattle.file_format.specs.Circuit.{Bounded};
+ghost use Rattle.file_format.specs.Reply.{number_reply};
 ghost use Rattle.file_format.specs.declared.Role.TheVariants as role;
 ghost use Rattle.graph.specs.Circuit.{circuit};
-ghost use Rattle.barring.specs.Outcome.{bar_reply, bar_around};
+ghost use Rattle.barring.specs.Outcome.{bar_around};
 ghost use Rattle.barring_find.specs.Ball.{SomeNetted, EveryListed};
 ghost use Rattle.barring_find.specs.Trial.{SomeTried, EveryAround};
 
 use crate::dropping::drop_links;
 use crate::trial::bars;
-use barring::{BarAnswer, placed};
-use file_format::{Board, Pattern};
+use file_format::{Board, File, Pattern, Refusal};
 use graph::marked::count;
 use graph_neighbours::tables::{OFFSETS, TARGETS, neighbour_tables};
 use graph_search::search;
@@ -21,6 +21,12 @@ use table_first::start;
 
 pub mod dropping;
 pub mod trial;
+
+// A centre that has a place.
+const PLACED: Refusal = Refusal {
+    number: 15,
+    file: File::Neither,
+};
 
 // Lists the nodes in the ball, and fills the first table with the pairs that agree there. Returns how many nodes there
 // are.
@@ -57,7 +63,7 @@ fn least_in_ball(
     first: &[u32],
     w: usize,
     out: &mut [u8],
-) -> BarAnswer
+) -> Result<usize, Refusal>
     requires some_tried { SomeTried starts.now ends.now offsets.now targets.now w nodes.now first.now }
     requires starts_in_bounds { length starts.now ≤ length out.old }
     ensures { EveryAround starts.now ends.now offsets.now targets.now
@@ -66,7 +72,7 @@ fn least_in_ball(
     let all = [1u8; Pattern::MAX_LINKS];
     let m = starts.len();
     if !bars(nodes, starts, ends, offsets, targets, first, w, &all[..m]) {
-        return placed();
+        return Err(PLACED);
     }
     drop_links(
         nodes,
@@ -78,7 +84,7 @@ fn least_in_ball(
         w,
         &mut out[..m],
     );
-    BarAnswer::Kept(count(&out[..m]))
+    Ok(count(&out[..m]))
 }
 
 // The kept links around a centre, in the ball at a radius: a byte for each link of the pattern, first in `out`, and how
@@ -92,11 +98,11 @@ pub fn bar_circuits(
     node_ends: &[u16],
     around: Around,
     out: &mut [u8],
-) -> BarAnswer
+) -> Result<usize, Refusal>
     requires bounded { let p = circuit part_labels.now part_starts.now part_ends.now in let b = circuit node_labels.now node_starts.now node_ends.now in Bounded role.Pattern p × Bounded role.Board b }
     requires centre_in_bounds { around.centre < length node_labels.now }
     requires part_starts_in_bounds { length part_starts.now ≤ length out.old }
-    ensures { let p = circuit part_labels.now part_starts.now part_ends.now in let b = circuit node_labels.now node_starts.now node_ends.now in record { reply = bar_reply result; out = out.new }
+    ensures { let p = circuit part_labels.now part_starts.now part_ends.now in let b = circuit node_labels.now node_starts.now node_ends.now in record { reply = number_reply result; out = out.new }
         ≡ bar_around p b around.centre around.radius out.old }
 {
     let mut offsets = [0u16; OFFSETS];

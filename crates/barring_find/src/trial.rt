@@ -19,7 +19,7 @@ fn chosen_of(xs: &[u16], marks: &[u8], out: &mut [u16]) -> usize
     ensures { (result ≤ length out.new)
         × (take result out.new ≡ picked marks.now xs.now) }
 {
-    graph::copy(xs, out);
+    base_lists::copy(xs, out);
     let m = marks.len();
     choose(marks, &mut out[..m])
 }

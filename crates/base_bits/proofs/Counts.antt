@@ -1,5 +1,5 @@
 -- How many digits of a number are set. Assumes nothing.
-use Rattle.std.specs.Prelude.{◌≡◌, ◌<◌, ◌+◌, ◌-◌, ◌^◌, ◌/◌, ◌≤◌}
+use Rattle.std.specs.Prelude.{◌≡◌, ◌<◌, ◌+◌, ◌^◌, ◌/◌, ◌≤◌}
 use Rattle.base_lists.specs.Kit.{◌∙◌, sym, ap, ap₂, ℕ, suc, zero, false, refl, Bool, true, ltb, arith, ltb-false, ltb-true}
 use lib.Arith.{lt-one}
 use lib.Count.{ones, ones_step}

@@ -1,5 +1,5 @@
 -- The binary digits of a number, one by one. Assumes nothing.
-use Rattle.std.specs.Prelude.{◌≡◌, ◌&&◌, ◌||◌, ◌≤◌, ◌<◌, ◌+◌, ◌-◌, ◌*◌, ◌^◌, ◌/◌, ◌%◌}
+use Rattle.std.specs.Prelude.{◌≡◌, ◌&&◌, ◌||◌, ◌≤◌, ◌<◌, ◌+◌, ◌*◌, ◌^◌, ◌/◌, ◌%◌}
 use Rattle.base_lists.specs.Kit.{◌∙◌, sym, ap, refl, ap₂, Bool, false, true, cond, ℕ, suc, zero, suc-le-suc, zero-lt-suc, lt_of_lt_of_le, lt_of_not-le, div-add-mod', pow-suc, mod-lt, mod-eq_of_lt, div-eq_of_lt, le-add_left, div-one, le-add_right, mul-div_cancel, mul-mod_left, one-mul, zero-div, add-one, one-add, T, eqb, eqb-suc-suc, eqb-suc-zero, eqb-zero-suc, arith}
 use lib.Arith.{lt-one}
 use lib.Bits.{bit_and, bit_or, and_shr, or_shr, and_mod, or_mod}

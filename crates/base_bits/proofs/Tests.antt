@@ -1,7 +1,7 @@
 -- Tests of whole sets by one operation on numbers: empty, included, with a common part. Assumes nothing.
-use Rattle.std.specs.Prelude.{◌≡◌, ◌&&◌, ◌||◌, ◌<◌, ◌^◌, ◌≤◌}
-use Rattle.base_lists.specs.Kit.{◌∙◌, sym, ap, refl, subst, Bool, false, true, not, not-not, or_assoc, and_self, ℕ, zero, T, eqb, eqb→eq, not_T, T_not, eq-eqb, arith}
-use lib.Bits.{bit_and, bit_or, and_lt, or_add_and, and_le_r, and_le_l}
+use Rattle.std.specs.Prelude.{◌≡◌, ◌&&◌, ◌||◌, ◌<◌, ◌^◌}
+use Rattle.base_lists.specs.Kit.{◌∙◌, sym, ap, refl, subst, Bool, false, true, not, not-not, or_assoc, and_self, ℕ, zero, T, eqb, eqb→eq, not_T, T_not, eq-eqb}
+use lib.Bits.{bit_and, bit_or, and_lt}
 use Rattle.base_lists.specs.List.{all_below, any_below}
 use Rattle.base_lists.proofs.Tests.{both_left, both_right, T_true, T_false, true-T, false-T, same_test, at-all_below, all_below-at, at-any_below, any_below-at, unless-at, at-unless}
 use Rattle.base_lists.proofs.Below.{any_below-same}
@@ -75,9 +75,3 @@ intersects-at a b t =
 pub subset-none : (b : ℕ) → subset_of 0 b ≡ true
 unfolding subset_of
 subset-none b = T_true (at-all_below 32 (λ v. not (bit 0 v) || bit b v) (λ v k. rw (bit-of-zero v) tt))
-
-pub bit_or-left : (a b : ℕ) → a ≤ bit_or a b
-bit_or-left a b = omega (arith, or_add_and a b, and_le_r a b)
-
-pub bit_or-right : (a b : ℕ) → b ≤ bit_or a b
-bit_or-right a b = omega (arith, or_add_and a b, and_le_l a b)

@@ -1,7 +1,7 @@
 // Sets of pattern parts as 32-bit numbers: part u is in the set when bit u is 1.
 #![tactic(auto)]
 
-ghost use Rattle.std.specs.Prelude.{◌++◌, ◌≡◌, ◌^◌, ◌≤◌, ◌<◌, length, drop, replicate};
+ghost use Rattle.std.specs.Prelude.{◌≡◌, ◌^◌, ◌<◌, length};
 ghost use Rattle.base_lists.specs.List.{Below};
 ghost use Rattle.base_bits.specs.Bits.{bit, subset_of, intersects, first_of, without_first, size_of, union_at};
 ghost use Rattle.base_bits.specs.Bits.{union_over};
@@ -40,7 +40,7 @@ pub fn meets(a: u32, b: u32) -> bool
 pub fn first(set: u32) -> u32
     ensures { result ≡ first_of set }
 {
-    u32::trailing_zeros(set)
+    set.trailing_zeros()
 }
 
 // The set without its least part.
@@ -55,7 +55,7 @@ pub fn without_first(set: u32) -> u32
 pub fn size(set: u32) -> u32
     ensures { result ≡ size_of set }
 {
-    u32::count_ones(set)
+    set.count_ones()
 }
 
 // The union of masks[u] over the parts u of the set, each of which has a mask.
@@ -65,9 +65,10 @@ pub fn union_of(masks: &[u32], set: u32) -> u32
 {
     let mut union: u32 = 0;
     let mut left = set;
+    // A while: it goes by the parts that are left, and not by a counter.
     while left != 0 {
-        union = union | masks[u32::trailing_zeros(left) as usize];
-        left = left & (left - 1);
+        union |= masks[left.trailing_zeros() as usize];
+        left &= left - 1;
     }
     union
 }
@@ -78,34 +79,8 @@ pub fn union_at(sets: &[u32], numbers: &[u16]) -> u32
     ensures { result ≡ union_at sets.now numbers.now }
 {
     let mut union: u32 = 0;
-    let mut i = 0;
-    while i < numbers.len() {
-        let w = numbers[i] as usize;
-        union = union | sets[w];
-        i += 1;
+    for &w in numbers {
+        union |= sets[w as usize];
     }
     union
-}
-
-// Copies the sets to the front of a table that has room for them.
-pub fn copy(sets: &[u32], table: &mut [u32])
-    requires { length sets.now ≤ length table.old }
-    ensures { table.new ≡ sets.now ++ drop (length sets.now) table.old }
-{
-    let mut v = 0;
-    while v < sets.len() {
-        table[v] = sets[v];
-        v += 1;
-    }
-}
-
-// Makes every set empty.
-pub fn clear(sets: &mut [u32])
-    ensures { sets.new ≡ replicate (length sets.old) 0 }
-{
-    let mut i = 0;
-    while i < sets.len() {
-        sets[i] = 0;
-        i += 1;
-    }
 }

@@ -1,8 +1,8 @@
 -- A loop that fills a list from the front, one store a turn, whatever the width of its entries: the laws that the proofs of such loops cite. Assumes nothing.
 use Rattle.std.specs.Prelude.{◌≡◌, ◌++◌, ◌≤◌, ◌<◌, ◌+◌}
-use Rattle.base_lists.specs.Kit.{◌∙◌, sym, ap, refl, List, ℕ, zero-le, length, get_or, drop, set, replicate, length-set, arith}
+use Rattle.base_lists.specs.Kit.{◌∙◌, refl, List, ℕ, zero-le, length, drop, set, length-set, arith}
 use Rattle.base_lists.specs.List.{tabulate}
-use Rattle.base_lists.proofs.Tables.{is-tabulate, filled-all, filled_next, filled_none, replicate-rule}
+use Rattle.base_lists.proofs.Tables.{filled-all, filled_next, filled_none}
 
 -- the first i entries of the list follow the rule f, and the others are as in xs, where the loop began
 abbrev pub FilledTo : (ℕ → ℕ) → List ℕ → ℕ → List ℕ → Type 0
@@ -16,16 +16,6 @@ module _ (f : ℕ → ℕ) (xs : List ℕ) (i : ℕ) (list : List ℕ) (filled :
   pub filling-more : (x : ℕ) → i < length list → x ≡ f i → FilledTo f xs (i + 1) (set list i x)
   filling-more x h e = (omega arith, length-set list i x ∙ filled.1, filled_next f xs list i x (omega arith) filled.2 e)
 
-  -- in the end the rule has made the whole list,
+  -- in the end the rule has made the whole list
   pub filling-all : length list ≤ i → list ≡ tabulate (length xs) f
   filling-all h = filled.2 ∙ filled-all i f xs (omega arith)
-
--- .. or has set every entry to x,
-pub filling-same : (x : ℕ) (xs : List ℕ) (i : ℕ) (list : List ℕ) → FilledTo (λ v. x) xs i list → length list ≤ i → list ≡ replicate (length xs) x
-filling-same x xs i list filled h = filling-all (λ v. x) xs i list filled h ∙ sym (replicate-rule (length xs) x)
-
--- .. or has copied a list to the front
-pub filling-copied : (part xs : List ℕ) (i : ℕ) (list : List ℕ) → FilledTo (λ j. get_or part j 0) xs i list → i ≡ length part → list ≡ part ++ drop (length part) xs
-filling-copied part xs i list filled e =
-    filled.2 ∙ ap (λ (k : ℕ). tabulate k (λ j. get_or part j 0) ++ drop k xs) e
-    ∙ ap (λ (l : List ℕ). l ++ drop (length part) xs) (sym (is-tabulate (length part) (λ j. get_or part j 0) part refl (λ j h. refl)))

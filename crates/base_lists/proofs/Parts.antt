@@ -1,6 +1,6 @@
 -- Laws of a stretch of a list. Assumes nothing.
 use Rattle.std.specs.Prelude.{◌≡◌, ◌++◌, ◌≤◌, ◌+◌, ◌⊎◌, ◌<◌, ◌-◌, ◌∷◌}
-use Rattle.base_lists.specs.Kit.{◌∙◌, ap, List, ℕ, length, take, drop, length-append, length-drop, length-take, take_at, drop_at, arith, length-take-le, sym, subst, take-append-le, drop-append-le, inl, inr, set, take-set-le, drop-set-add, drop-set-lt, suc, le_refl, length-set, drop-cons, get_or-set_same, [], zero, take-nil, get_or, get_or-take, get_or-drop, refl, not-suc-le-zero, le_of_suc-le-suc, replicate, sets, sets-eq, sub_self, take-suc}
+use Rattle.base_lists.specs.Kit.{◌∙◌, ap, List, ℕ, length, take, drop, length-append, length-drop, length-take, take_at, drop_at, arith, length-take-le, sym, subst, take-append-le, drop-append-le, inl, inr, set, take-set-le, drop-set-add, drop-set-lt, suc, le_refl, length-set, drop-cons, get_or-set_same, [], zero, take-nil, get_or, get_or-take, get_or-drop, refl, not-suc-le-zero, le_of_suc-le-suc, replicate, sets, sets-eq}
 use Rattle.base_lists.specs.List.{part, tabulate}
 use Rattle.base_lists.proofs.Tables.{is-tabulate, length-tabulate, get_d_tabulate}
 
@@ -111,20 +111,3 @@ pub take-sets : (old values : List ℕ) (k : ℕ) → length values ≡ k → k 
 take-sets old values k e h =
     let room : 0 + length values ≤ length old = omega arith in
     ap (take k) (sets-eq values old 0 room) ∙ take_at values _ k e
-
--- ---- one entry more of a part
-
--- nothing yet, and one entry more
-pub part_none : (from : ℕ) (l : List ℕ) → [] ≡ part from (from - from) l
-unfolding part
-part_none from l = rw (sub_self from)
-
-pub part-more : (from i : ℕ) (l : List ℕ) → from ≤ i → i < length l → part from (i - from) l ++ (get_or l i 0 ∷ []) ≡ part from ((i + 1) - from) l
-unfolding part
-part-more from i l h b =
-    let k : ℕ = i - from in
-    let next : (i + 1) - from ≡ suc k = omega arith in
-    let here : from + k ≡ i = omega arith in
-    rw next
-    (ap (λ (x : ℕ). take k (drop from l) ++ (x ∷ [])) (sym (get_or-drop from l k 0 ∙ ap (λ (j : ℕ). get_or l j 0) here))
-    ∙ sym (take-suc (drop from l) k 0 (omega (arith, length-drop from l))))

@@ -2,7 +2,8 @@
 -- names.
 -- Assumes nothing.
 use Rattle.std.specs.Prelude.{◌≡◌, ◌∷◌, ◌++◌, ◌≤◌, ◌<◌, ◌+◌, ◌*◌, ◌^◌, ◌/◌, ◌%◌}
-use Rattle.base_lists.specs.Kit.{◌∙◌, sym, ap, refl, Bool, false, true, cond, List, [], ℕ, suc, zero, le_of_eq, zero-add, pow-suc, ltb, length, get_or, drop, set, length-append, sets-eq, length-sets, arith, le-ltb, lt-ltb, ltb-false, ltb-true}
+use Rattle.base_lists.specs.Kit.{◌∙◌, sym, ap, refl, Bool, false, true, cond, List, [], ℕ, suc, zero, le_of_eq, zero-add, pow-suc, ltb, length, get_or, drop, take, set, length-append, append_assoc, drop-drop, sets-eq, length-sets, arith, le-ltb, lt-ltb, ltb-false, ltb-true}
+use borrow.Rule.Slice.PartMut.{put_mid}
 use Rattle.base_lists.proofs.Tables.{get_d_tabulate, sets-append}
 use Rattle.base_text.specs.Text.{digits, decimal, bytes_of_four, digits_number, Names, Put, Fits}
 
@@ -12,18 +13,15 @@ use Rattle.base_text.specs.Text.{digits, decimal, bytes_of_four, digits_number, 
 pub put_one : (o : List ℕ) (at b : ℕ) → Put o at (b ∷ []) (set o at b) (at + 1)
 put_one o at b = record { table = refl; end = refl }
 
+-- a text copied over the bytes from the offset on
+pub put-copied : (o word : List ℕ) (at n : ℕ) → Fits o at word → n ≡ length word → Put o at word (put_mid at n o word) (at + length word)
+put-copied o word at n f e =
+    let room = f.room in
+    record { table = rw (e, sets-eq word o at room, append_assoc) (ap (λ (l : List ℕ). take at o ++ (word ++ l)) (drop-drop (length word) at o)); end = refl }
+
 -- nothing
 pub put-nothing : {o : List ℕ} {at : ℕ} → Put o at [] o at
 put-nothing = record { table = refl; end = omega arith }
-
--- four bytes
-pub put-four-bytes : (o : List ℕ) (at a b c d : ℕ) →
-    Put o at (a ∷ b ∷ c ∷ d ∷ []) (set (set (set (set o at a) (at + 1) b) (at + 2) c) (at + 3) d) (at + 4)
-put-four-bytes o at a b c d =
-    let e1 : at + 1 ≡ suc at = omega arith in
-    let e2 : at + 2 ≡ suc (suc at) = omega arith in
-    let e3 : at + 3 ≡ suc (suc (suc at)) = omega arith in
-    record { table = rw (e1, e2, e3); end = refl }
 
 -- two texts one after another
 pub put_then : {o o1 o2 xs ys : List ℕ} {at p q : ℕ} → Put o at xs o1 p → Put o1 p ys o2 q → Put o at (xs ++ ys) o2 q

@@ -18,11 +18,10 @@ pub fn put_bytes(word: &[u8], out: &mut [u8], at: usize) -> usize
     requires { Fits out.old at word.now }
     ensures { Put out.old at word.now out.new result }
 {
+    // Byte by byte: `copy_from_slice` allows for an overlap, and takes more instructions for a short word.
     let mut end = at;
-    let mut i = 0;
-    while i < word.len() {
-        end = put_byte(word[i], out, end);
-        i += 1;
+    for &b in word {
+        end = put_byte(b, out, end);
     }
     end
 }
@@ -88,11 +87,9 @@ fn put_four(x: u32, out: &mut [u8], at: usize) -> usize
     requires { Fits out.old at (bytes_of_four x) }
     ensures { Put out.old at (bytes_of_four x) out.new result }
 {
-    out[at] = (x % 256) as u8;
-    out[at + 1] = (x / 256 % 256) as u8;
-    out[at + 2] = (x / 65536 % 256) as u8;
-    out[at + 3] = (x / 16777216) as u8;
-    at + 4
+    let end = at + 4;
+    out[at..end].copy_from_slice(&x.to_le_bytes());
+    end
 }
 
 // The digits of a number, as a number of four bytes.
@@ -108,10 +105,8 @@ pub fn make_names(names: &mut [u32])
     requires { length names.old ≤ 1000 }
     ensures { Names names.new }
 {
-    let mut x = 0;
-    while x < names.len() {
-        names[x] = name_of(x as u32);
-        x += 1;
+    for (x, name) in names.iter_mut().enumerate() {
+        *name = name_of(x as u32);
     }
 }
 

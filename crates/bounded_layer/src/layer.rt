@@ -22,10 +22,8 @@ pub fn widen(
     ensures { next.new ≡ next_layer (neighbours_in direction offsets.now targets.now)
         old.now layer.now }
 {
-    let mut v = 0;
-    while v < next.len() {
+    for v in 0..next.len() {
         let near = neighbours_in(direction, offsets, targets, v);
         next[v] = old[v] | union_at(layer, near);
-        v += 1;
     }
 }

@@ -16,6 +16,7 @@ fn covered(set: u32, masks: &[u32], f: u32) -> u32
 {
     let mut kept: u32 = 0;
     let mut left = set;
+    // A while: each turn takes the lowest of the bits that are left.
     while left != 0 {
         let u = base_bits::first(left);
         if base_bits::subset(masks[u as usize], f) {
@@ -63,10 +64,8 @@ pub fn pass(
     ensures { new.new ≡ pass_table (neighbours_in direction offsets.now targets.now)
         masks.now layer.now new.old }
 {
-    let mut v = 0;
-    while v < new.len() {
+    for v in 0..new.len() {
         let set = new[v];
         new[v] = pass_node(direction, masks, offsets, targets, layer, v, set);
-        v += 1;
     }
 }

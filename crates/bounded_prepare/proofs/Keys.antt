@@ -1,5 +1,5 @@
 -- The numbers of bound and part fit 128 masks. Assumes nothing.
-use Rattle.std.specs.Prelude.{◌≡◌, ◌<◌, ◌-◌}
+use Rattle.std.specs.Prelude.{◌≡◌, ◌<◌}
 use Rattle.base_lists.specs.Kit.{List, ℕ, length, get_or, arith}
 use Rattle.base_lists.specs.List.{Below}
 use Rattle.base_lists.proofs.Tables.{length-tabulate, get_d_tabulate}

@@ -1,7 +1,7 @@
 // What the passes look up: the masks of a pattern with bounds, and the largest bound in use.
 #![tactic(auto)]
 
-ghost use Rattle.std.specs.Prelude.{◌≡◌, ◌≤◌, ◌<◌, length};
+ghost use Rattle.std.specs.Prelude.{◌≡◌, ◌≤◌, length};
 ghost use Rattle.base_lists.specs.List.{Below};
 ghost use Rattle.table.specs.Prepared.{masks_of};
 ghost use Rattle.bounded_strike.specs.Prepared.{keyed, BoundMasked, Top};
@@ -17,10 +17,8 @@ fn keys_of(bounds: &[u16], parts: &[u16], keys: &mut [u16])
     requires bounds_len { (length bounds.now ≡ length parts.now) × (length keys.old ≡ length parts.now) }
     ensures { keys.new ≡ keyed bounds.now parts.now }
 {
-    let mut i = 0;
-    while i < keys.len() {
+    for i in 0..keys.len() {
         keys[i] = 32 * (bounds[i] - 1) + parts[i];
-        i += 1;
     }
 }
 
@@ -68,13 +66,5 @@ pub fn largest_bound(bounds: &[u16]) -> usize
     requires { InBounds bounds.now }
     ensures { Top bounds.now result }
 {
-    let mut top: u16 = 1;
-    let mut i = 0;
-    while i < bounds.len() {
-        if top < bounds[i] {
-            top = bounds[i];
-        }
-        i += 1;
-    }
-    top as usize
+    bounds.iter().copied().max().unwrap_or(1) as usize
 }

@@ -1,5 +1,5 @@
 -- Masks by bound and part as one number are the masks of the links of each bound. Assumes nothing.
-use Rattle.std.specs.Prelude.{◌≡◌, ◌∷◌, ◌≤◌, ◌<◌, ◌+◌, ◌-◌, ◌*◌}
+use Rattle.std.specs.Prelude.{◌≡◌, ◌∷◌, ◌≤◌, ◌<◌, ◌+◌, ◌*◌}
 use Rattle.base_lists.specs.Kit.{◌∙◌, sym, ap, refl, Bool, false, true, cond, List, [], ℕ, suc, zero, suc-le-suc, zero-lt-suc, eqb, length, get_or, arith, eq-eqb, ne_eqb, eqb-true, eqb-false}
 use Rattle.base_lists.specs.List.{tabulate, Below}
 use Rattle.base_lists.specs.Below.{keep_from}

@@ -1,15 +1,13 @@
--- How many pairs a table has, counted from the front. Assumes nothing.
-use Rattle.std.specs.Prelude.{◌≡◌, ◌≤◌, ◌<◌, ◌+◌}
-use Rattle.base_lists.specs.Kit.{ap, List, ℕ, add-one, length, get_or, drop, drop_of_length-le, drop-cons}
+-- How many pairs a table has, as a sum in std's word. Assumes nothing.
+use Rattle.std.specs.Prelude.{◌≡◌, ◌∷◌, ◌+◌}
+use Rattle.std.specs.List.{sum_by}
+use Rattle.std.proofs.lemmas.List.Sums.{sum_by-cons}
+use Rattle.base_lists.specs.Kit.{◌∙◌, ap, refl, List, [], ℕ}
 use Rattle.base_lists.specs.List.{sum}
 use Rattle.base_bits.specs.Bits.{size_of}
 use Rattle.table_row.specs.Row.{pairs}
 
--- the next set, and the rest
-pub pairs_next : (t : List ℕ) (v : ℕ) → v < length t → pairs (drop v t) ≡ size_of (get_or t v 0) + pairs (drop (v + 1) t)
+pub sum_by-pairs : (t : List ℕ) → sum_by size_of t ≡ pairs t
 unfolding pairs sum
-pairs_next t v h = rw (add-one, drop-cons t v 0)
-
-pub pairs_end : (t : List ℕ) (v : ℕ) → length t ≤ v → pairs (drop v t) ≡ 0
-unfolding pairs sum
-pairs_end t v h = ap pairs (drop_of_length-le t h)
+sum_by-pairs [] = refl
+sum_by-pairs (x ∷ xs) = sum_by-cons size_of x xs ∙ ap (λ (n : ℕ). size_of x + n) (sum_by-pairs xs)

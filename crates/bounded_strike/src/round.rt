@@ -8,7 +8,7 @@ ghost use Rattle.bounded_layer.specs.Pass.{pass_table, next_layer};
 ghost use Rattle.bounded_strike.specs.Round.{passes, round_table, BoundedReady};
 
 use crate::{BOUND_MASKS, WAY_MASKS};
-use base_bits::copy;
+use base_lists::copy;
 use bounded_layer::layer::widen;
 use bounded_layer::pass::pass;
 use graph_neighbours::neighbours::Direction;
@@ -77,6 +77,7 @@ fn strike_way(
     ensures { new.new ≡ passes (neighbours_in way offsets.now targets.now)
         masks.now old.now top new.old }
 {
+    // Bound by bound, not in a loop: the scratch tables take turns, and bound 2 begins from `old` without a copy.
     pass_asked(way, &masks[0..32], offsets, targets, old, new);
     if top < 2 {
         return;
@@ -106,13 +107,7 @@ fn count(table: &[u32]) -> u32
     requires { length table.now ≤ 65536 }
     ensures { result ≡ pairs table.now }
 {
-    let mut sum: u32 = 0;
-    let mut v = 0;
-    while v < table.len() {
-        sum = sum + base_bits::size(table[v]);
-        v += 1;
-    }
-    sum
+    table.iter().map(|&set| base_bits::size(set)).sum()
 }
 
 // Writes the next set of each node into `new`, each from the table `old` whole, and returns how many pairs these sets

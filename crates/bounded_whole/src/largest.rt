@@ -30,6 +30,7 @@ pub fn refine(
 {
     let mut kept = started;
     let mut rounds: u32 = 0;
+    // A loop: it ends with the round that strikes nothing, of either table, and how many come before it is not known.
     loop {
         let left = strike(masks, offsets, targets, top, table, layer, next, spare);
         if left == kept {

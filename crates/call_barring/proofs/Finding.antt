@@ -1,5 +1,5 @@
 -- What the call comes to, by cases: a refused file, a centre outside, too few bytes, or what is found. Assumes nothing.
-use Rattle.std.specs.Prelude.{◌≡◌, ◌≤◌, ◌<◌}
+use Rattle.std.specs.Prelude.{◌≡◌, ◌≤◌, ◌<◌, Err}
 use Rattle.base_lists.specs.Kit.{◌∙◌, sym, ap, List, ℕ, length, le-ltb, lt-ltb}
 use Rattle.graph.specs.Circuit.{Circuit}
 use Rattle.graph.specs.Search.{radius}
@@ -10,31 +10,30 @@ use Rattle.file_format.specs.Circuit.{circuit_of}
 use Rattle.file_format.specs.Layout.{CircuitFile, starts_of, ends_of}
 use Rattle.file_format.specs.Reading.{prefix, filled}
 use Rattle.file_format.specs.Refusals.{accept, refuse, first, centre_outside, short_table}
-use Rattle.file_format.specs.Reply.{reply}
+use Rattle.file_format.specs.Reply.{reply, number_reply}
 use Rattle.file_format.proofs.Fields.{length-labels, length-starts}
 use Rattle.file_format.proofs.Refusals.{first-accept, first-refuse}
 use Rattle.file_pair.specs.declared.Pair.{Pair}
 use Rattle.file_pair.specs.Pair.{pair_conditions, BothRead}
 use Rattle.file_pair.proofs.Both.{pair-radius}
 use Rattle.place.specs.Match.{radius_of}
-use Rattle.barring.specs.declared.BarAnswer.TheVariants.{Refused}
-use Rattle.barring.specs.Outcome.{BarOutcome, bar_reply, barring, bar_around}
+use Rattle.barring.specs.Outcome.{BarOutcome, barring, bar_around}
 use Rattle.call_barring.specs.Call.{has_place, bar_inputs, bar_call, bar_on}
 
 -- a call that is turned away leaves the bytes as they were
 abbrev pub untouched : Refusal → List ℕ → BarOutcome
-untouched x out = record { reply = bar_reply (Refused x); out = out }
+untouched x out = record { reply = number_reply (Err x); out = out }
 
 -- ---- two circuits
 
 module _ (r : ℕ) (p b : Circuit) (w : ℕ) (out : List ℕ) where
   pub on-centre : length b.labels ≤ w → untouched (record { number = 7; file = Neither }) out ≡ bar_on r p b w out
-  unfolding bar_on barring bar_reply first centre_outside reply filled
+  unfolding bar_on barring number_reply first centre_outside reply filled
   on-centre h = rw (le-ltb _ _ h)
 
   module _ (inside : w < length b.labels) where
     pub on-short : length out < length p.starts → untouched (record { number = 8; file = Neither }) out ≡ bar_on r p b w out
-    unfolding bar_on barring bar_reply first centre_outside short_table reply filled
+    unfolding bar_on barring number_reply first centre_outside short_table reply filled
     on-short h = rw (lt-ltb _ _ inside, lt-ltb _ _ h)
 
     pub on-around : length p.starts ≤ length out → {o : BarOutcome} → o ≡ bar_around p b w r out → o ≡ bar_on r p b w out
@@ -45,7 +44,7 @@ module _ (r : ℕ) (p b : Circuit) (w : ℕ) (out : List ℕ) where
 
 module _ (pattern board : CircuitFile) (w : ℕ) (out : List ℕ) where
   pub bar-refused : {x : Refusal} → first (pair_conditions Pattern pattern board) ≡ refuse x → untouched x out ≡ bar_call pattern board w out
-  unfolding bar_call bar_inputs barring bar_reply reply filled
+  unfolding bar_call bar_inputs barring number_reply reply filled
   bar-refused e = rw (first-refuse _ _ _ e)
 
   bar-accepted : first (pair_conditions Pattern pattern board) ≡ accept → bar_on (radius_of (circuit_of pattern)) (circuit_of pattern) (circuit_of board) w out ≡ bar_call pattern board w out

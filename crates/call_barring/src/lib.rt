@@ -6,13 +6,12 @@ ghost use Rattle.std.specs.Prelude.{◌≡◌};
 ghost use Rattle.file_format.specs.Circuit.{Bounded};
 ghost use Rattle.file_format.specs.declared.Role.TheVariants as role;
 ghost use Rattle.file_format.specs.Layout.{in_edition};
+ghost use Rattle.file_format.specs.Reply.{number_reply};
 ghost use Rattle.graph.specs.Circuit.{circuit};
-ghost use Rattle.barring.specs.Outcome.{bar_reply};
 ghost use Rattle.call_barring.specs.Call.{bar_on, bar_call};
 
-use barring::BarAnswer;
 use barring_find::bar_circuits;
-use file_format::{Board, Editions, FileVerdict, OUTSIDE, Pattern, Role, TOO_SHORT};
+use file_format::{Board, Editions, OUTSIDE, Pattern, Refusal, Role, TOO_SHORT};
 use file_pair::read_pair;
 use place::{Around, Asked};
 
@@ -27,17 +26,17 @@ fn bar_on(
     ne: &[u16],
     asked: Asked,
     out: &mut [u8],
-) -> BarAnswer
+) -> Result<usize, Refusal>
     requires { let p = circuit pk.now ps.now pe.now in let b = circuit nk.now ns.now ne.now in Bounded role.Pattern p × Bounded role.Board b }
-    ensures { let p = circuit pk.now ps.now pe.now in let b = circuit nk.now ns.now ne.now in record { reply = bar_reply result; out = out.new }
+    ensures { let p = circuit pk.now ps.now pe.now in let b = circuit nk.now ns.now ne.now in record { reply = number_reply result; out = out.new }
         ≡ bar_on asked.radius p b asked.centre out.old }
 {
     let centre = asked.centre;
     if nk.len() <= centre {
-        return BarAnswer::Refused(OUTSIDE);
+        return Err(OUTSIDE);
     }
     if out.len() < ps.len() {
-        return BarAnswer::Refused(TOO_SHORT);
+        return Err(TOO_SHORT);
     }
     let around = Around {
         centre: centre as u16,
@@ -54,8 +53,8 @@ pub fn bar(
     board: &[u8],
     centre: usize,
     out: &mut [u8],
-) -> BarAnswer
-    ensures { record { reply = bar_reply result; out = out.new }
+) -> Result<usize, Refusal>
+    ensures { record { reply = number_reply result; out = out.new }
         ≡ bar_call (in_edition editions.pattern pattern.now)
         (in_edition editions.board board.now) centre out.old }
 {
@@ -76,11 +75,7 @@ pub fn bar(
         &mut nk,
         &mut ns,
         &mut ne,
-    );
-    let verdict = read.verdict;
-    if let FileVerdict::Refused(x) = verdict {
-        return BarAnswer::Refused(x);
-    }
+    )?;
     let radius = read.radius;
     let parts = read.parts;
     let joins = read.joins;

@@ -1,5 +1,5 @@
 -- What the call comes to, by cases: a refused file, a short table, or the match. Assumes nothing.
-use Rattle.std.specs.Prelude.{◌≡◌, ◌∷◌, ◌++◌, ◌≤◌, ◌<◌}
+use Rattle.std.specs.Prelude.{◌≡◌, ◌∷◌, ◌++◌, ◌≤◌, ◌<◌, Ok, Err}
 use Rattle.base_lists.specs.Kit.{◌∙◌, sym, ap, ap₂, List, [], ℕ, length, take, drop, le-ltb, lt-ltb}
 use Rattle.base_lists.proofs.Parts.{length-take-room}
 use Rattle.graph.specs.Circuit.{Circuit}
@@ -21,7 +21,6 @@ use Rattle.file_bounds.proofs.Third.{bounds-count, third-accepted}
 use Rattle.bounded.specs.Problem.{Bounds, bounded_table, bounded_counts, BoundedAnswer}
 use Rattle.bounded.proofs.Run.{bounded-length}
 use Rattle.call_match.specs.Call.{TableOutcome, reply_of}
-use Rattle.call_match.specs.declared.TableAnswer.TheVariants.{Matched, Refused}
 use Rattle.table.specs.declared.Counts.{Counts}
 use Rattle.table.specs.Reply.{MatchReply, counts_reply}
 use Rattle.call_bounded.specs.Call.{bounded_conditions, bounded_on, bounded_matching}
@@ -30,7 +29,7 @@ use Rattle.call_bounded.specs.Call.{bounded_conditions, bounded_on, bounded_matc
 
 module _ (p : Circuit) (bounds : List ℕ) (b : Circuit) (table : List ℕ) where
   pub on-short : length table < length b.labels
-      → record { reply = reply_of (Refused (record { number = 8; file = Neither })); table = table } ≡ bounded_on p bounds b table
+      → record { reply = reply_of (Err (record { number = 8; file = Neither })); table = table } ≡ bounded_on p bounds b table
   unfolding bounded_on first short_table counts_reply reply_of filled
   on-short h = rw (lt-ltb _ _ h)
 
@@ -40,7 +39,7 @@ module _ (p : Circuit) (bounds : List ℕ) (b : Circuit) (table : List ℕ) wher
   fits-verdict h = rw (le-ltb _ _ h)
 
   -- the counts are replied with,
-  fits-reply : length b.labels ≤ length table → {counts : Counts} → counts ≡ bounded_counts p bounds b → reply_of (Matched counts) ≡ (bounded_on p bounds b table).reply
+  fits-reply : length b.labels ≤ length table → {counts : Counts} → counts ≡ bounded_counts p bounds b → reply_of (Ok counts) ≡ (bounded_on p bounds b table).reply
   unfolding bounded_on counts_reply reply_of
   fits-reply h e = rw e (ap (λ (v : Verdict). counts_reply v (bounded_counts p bounds b)) (sym (fits-verdict h)))
 
@@ -53,7 +52,7 @@ module _ (p : Circuit) (bounds : List ℕ) (b : Circuit) (table : List ℕ) wher
       prefix ∙ ap (λ (v : Verdict). filled v (bounded_table p bounds b) table) (sym (fits-verdict h))
 
   pub on-matched : length b.labels ≤ length table → {counts : Counts} {last : List ℕ} → BoundedAnswer p bounds b last counts
-      → record { reply = reply_of (Matched counts); table = last ++ drop (length b.labels) table } ≡ bounded_on p bounds b table
+      → record { reply = reply_of (Ok counts); table = last ++ drop (length b.labels) table } ≡ bounded_on p bounds b table
   on-matched h m = ap₂ (λ (r : MatchReply) (t : List ℕ). record { reply = r; table = t }) (fits-reply h m.counted) (fits-table h m.last)
 
 -- ---- an accepted pattern of the third edition
@@ -85,12 +84,12 @@ module _ (pattern : List ℕ) (e : first (third_conditions pattern) ≡ accept) 
 -- ---- two files
 
 module _ (pattern : List ℕ) (board : CircuitFile) (table : List ℕ) where
-  pub pattern-refused : {x : Refusal} → first (third_conditions pattern) ≡ refuse x → record { reply = reply_of (Refused x); table = table } ≡ bounded_matching pattern board table
+  pub pattern-refused : {x : Refusal} → first (third_conditions pattern) ≡ refuse x → record { reply = reply_of (Err x); table = table } ≡ bounded_matching pattern board table
   unfolding bounded_matching bounded_conditions counts_reply reply_of filled
   pattern-refused e = rw (first-refuse (third_conditions pattern) (file_conditions Board board ++ (short_table (nodes_of board) (length table) ∷ [])) _ e)
 
   module _ (drawn : first (third_conditions pattern) ≡ accept) where
-    pub board-refused : {x : Refusal} → first (file_conditions Board board) ≡ refuse x → record { reply = reply_of (Refused x); table = table } ≡ bounded_matching pattern board table
+    pub board-refused : {x : Refusal} → first (file_conditions Board board) ≡ refuse x → record { reply = reply_of (Err x); table = table } ≡ bounded_matching pattern board table
     unfolding bounded_matching bounded_conditions counts_reply reply_of filled
     board-refused e =
         rw

@@ -12,10 +12,10 @@ ghost use Rattle.call_match.specs.Call.{reply_of};
 ghost use Rattle.call_bounded.specs.Call.{bounded_on, bounded_matching};
 
 use bounded_whole::match_bounded;
-use call_match::TableAnswer;
 use file_bounds::load_bounded;
-use file_format::{Board, Edition, FileVerdict, Pattern, Role, TOO_SHORT};
+use file_format::{Board, Edition, Pattern, Refusal, Role, TOO_SHORT};
 use file_read::load;
+use table::Counts;
 
 // The call on a pattern with bounds and a board that were read. The table's length is tested before anything is written
 // to it.
@@ -28,7 +28,7 @@ fn match_on(
     node_starts: &[u16],
     node_ends: &[u16],
     table: &mut [u32],
-) -> TableAnswer
+) -> Result<Counts, Refusal>
     requires bounded { Bounded role.Pattern (circuit part_labels.now part_starts.now part_ends.now) }
     requires bounds { Bounds (circuit part_labels.now part_starts.now part_ends.now) bounds.now }
     requires bounded_2 { Bounded role.Board (circuit node_labels.now node_starts.now node_ends.now) }
@@ -39,9 +39,9 @@ fn match_on(
 {
     let n = node_labels.len();
     if table.len() < n {
-        return TableAnswer::Refused(TOO_SHORT);
+        return Err(TOO_SHORT);
     }
-    TableAnswer::Matched(match_bounded(
+    Ok(match_bounded(
         part_labels,
         part_starts,
         part_ends,
@@ -62,7 +62,7 @@ pub fn match_bounds(
     pattern: &[u8],
     board: &[u8],
     table: &mut [u32],
-) -> TableAnswer
+) -> Result<Counts, Refusal>
     ensures { record { reply = reply_of result; table = table.new }
         ≡ bounded_matching pattern.now (in_edition edition board.now) table.old }
 {
@@ -70,19 +70,11 @@ pub fn match_bounds(
     let mut ps = [0u16; Pattern::MAX_LINKS];
     let mut pe = [0u16; Pattern::MAX_LINKS];
     let mut pb = [0u16; Pattern::MAX_LINKS];
-    let drawn = load_bounded(pattern, &mut pk, &mut ps, &mut pe, &mut pb);
-    let verdict = drawn.verdict;
-    if let FileVerdict::Refused(x) = verdict {
-        return TableAnswer::Refused(x);
-    }
+    let drawn = load_bounded(pattern, &mut pk, &mut ps, &mut pe, &mut pb)?;
     let mut nk = [0u32; Board::MAX_NODES];
     let mut ns = [0u16; Board::MAX_LINKS];
     let mut ne = [0u16; Board::MAX_LINKS];
-    let given = load(Role::Board, edition, board, &mut nk, &mut ns, &mut ne);
-    let verdict = given.verdict;
-    if let FileVerdict::Refused(x) = verdict {
-        return TableAnswer::Refused(x);
-    }
+    let given = load(Role::Board, edition, board, &mut nk, &mut ns, &mut ne)?;
     let parts = drawn.nodes;
     let joins = drawn.links;
     let n = given.nodes;

@@ -1,18 +1,16 @@
 -- What the call comes to, by cases: a refused file, a centre outside, bytes of another length, or yes or no. Assumes
 -- nothing.
-use Rattle.std.specs.Prelude.{◌≡◌, ◌∷◌}
-use Rattle.base_lists.specs.Kit.{◌∙◌, sym, ap, refl, Bool, false, true, List, [], ℕ, length}
+use Rattle.std.specs.Prelude.{◌≡◌, Result, Ok, Err}
+use Rattle.base_lists.specs.Kit.{◌∙◌, sym, ap, Bool, List, ℕ, length}
 use Rattle.graph.specs.Circuit.{Circuit}
 use Rattle.graph.specs.Search.{radius}
 use Rattle.file_format.specs.declared.Role.TheVariants.{Pattern}
 use Rattle.file_format.specs.declared.Refusal.{Refusal}
 use Rattle.file_format.specs.Circuit.{circuit_of}
 use Rattle.file_format.specs.Layout.{CircuitFile, starts_of, ends_of}
-use Rattle.file_format.specs.declared.FileVerdict.{FileVerdict}
-use Rattle.file_format.specs.declared.FileVerdict.TheVariants as file
-use Rattle.file_format.specs.Reading.{prefix, verdict_of}
+use Rattle.file_format.specs.Reading.{prefix}
 use Rattle.file_format.specs.Refusals.{Verdict, accept, refuse, first}
-use Rattle.file_format.specs.Reply.{Reply, reply}
+use Rattle.file_format.specs.Reply.{Reply, reply, verdict_of}
 use Rattle.file_format.proofs.Fields.{length-labels, length-starts}
 use Rattle.file_format.proofs.Refusals.{first-accept, first-refuse}
 use Rattle.call_decide.specs.Decide.{bytes_conditions}
@@ -21,9 +19,7 @@ use Rattle.file_pair.specs.Pair.{pair_conditions, BothRead}
 use Rattle.file_pair.proofs.Both.{pair-radius}
 use Rattle.place.specs.Match.{radius_of}
 use Rattle.proposal.specs.Check.{checks}
-use Rattle.call_check.specs.declared.CheckAnswer.{CheckAnswer}
-use Rattle.call_check.specs.declared.CheckAnswer.TheVariants.{Refused}
-use Rattle.call_check.specs.Call.{yes_value, check_answered, check_reply, check_conditions, check_call, check_on}
+use Rattle.call_check.specs.Call.{check_reply, check_conditions, check_call, check_on}
 
 -- ---- two circuits
 
@@ -32,27 +28,23 @@ module _ (r : ℕ) (p b : Circuit) (w : ℕ) (nodes links : List ℕ) where
   abbrev told : Verdict
   told = first (bytes_conditions (length b.labels) (length b.starts) w (length nodes) (length links))
 
-  pub on-refused : {v : FileVerdict} {x : Refusal} → verdict_of v ≡ told → v ≡ file.Refused x → check_reply (Refused x) ≡ check_on r p b w nodes links
-  unfolding check_reply check_on reply verdict_of
-  on-refused says e = rw (sym says ∙ ap verdict_of e)
+  module _ {A : Type 0} {v : Result A Refusal} (says : verdict_of v ≡ told) where
+    pub on-refused : {x : Refusal} → v ≡ Err x → check_reply (Err x) ≡ check_on r p b w nodes links
+    unfolding check_reply check_on reply verdict_of
+    on-refused e = rw (sym says ∙ ap verdict_of e)
 
-  on-accepted : {v : FileVerdict} → verdict_of v ≡ told → v ≡ file.Accepted → told ≡ accept
-  unfolding verdict_of
-  on-accepted says e = sym says ∙ ap verdict_of e
+    on-accepted : {a : A} → v ≡ Ok a → told ≡ accept
+    unfolding verdict_of
+    on-accepted e = sym says ∙ ap verdict_of e
 
-  pub on-judged : {v : FileVerdict} → verdict_of v ≡ told → v ≡ file.Accepted → {a : CheckAnswer} {t : Bool} → a ≡ check_answered t → t ≡ checks p b w r nodes links →
-      check_reply a ≡ check_on r p b w nodes links
-  unfolding check_on reply check_reply check_answered
-  on-judged says e {t = t} q s = ap check_reply q ∙ value t ∙ rw (on-accepted says e, s)
-    where
-      value : (t : Bool) → check_reply (check_answered t) ≡ reply accept (yes_value t ∷ [])
-      value true = refl
-      value false = refl
+    pub on-judged : {a : A} → v ≡ Ok a → {t : Bool} → t ≡ checks p b w r nodes links → check_reply (Ok t) ≡ check_on r p b w nodes links
+    unfolding check_on reply check_reply
+    on-judged e s = rw (on-accepted e, s)
 
 -- ---- two files
 
 module _ (pattern board : CircuitFile) (w : ℕ) (nodes links : List ℕ) where
-  pub check-refused : {x : Refusal} → first (pair_conditions Pattern pattern board) ≡ refuse x → check_reply (Refused x) ≡ check_call pattern board w nodes links
+  pub check-refused : {x : Refusal} → first (pair_conditions Pattern pattern board) ≡ refuse x → check_reply (Err x) ≡ check_call pattern board w nodes links
   unfolding check_reply check_call check_conditions reply
   check-refused e = rw (first-refuse _ _ _ e)
 

@@ -1,7 +1,8 @@
 -- The call that checks a place from elsewhere, whole: the reply, from the inputs alone. Nothing is lent.
-use Rattle.std.specs.Prelude.{◌∷◌, ◌++◌}
-use Rattle.base_lists.specs.Kit.{Bool, false, true, cond, List, [], ℕ, length}
+use Rattle.std.specs.Prelude.{◌∷◌, ◌++◌, Result, Ok, Err}
+use Rattle.base_lists.specs.Kit.{Bool, cond, List, [], ℕ, length}
 use Rattle.graph.specs.Circuit.{Circuit}
+use Rattle.file_format.specs.declared.Refusal.{Refusal}
 use Rattle.file_format.specs.declared.Role.TheVariants.{Pattern}
 use Rattle.file_format.specs.Circuit.{circuit_of}
 use Rattle.file_format.specs.Layout.{CircuitFile, nodes_of, links_of}
@@ -11,22 +12,15 @@ use Rattle.call_decide.specs.Decide.{bytes_conditions}
 use Rattle.file_pair.specs.Pair.{pair_conditions}
 use Rattle.place.specs.Match.{radius_of}
 use Rattle.proposal.specs.Check.{checks}
-use Rattle.call_check.specs.declared.CheckAnswer.{CheckAnswer}
-use Rattle.call_check.specs.declared.CheckAnswer.TheVariants.{Yes, No, Refused}
 
 -- yes is 1, no is 0
 abbrev pub yes_value : Bool → ℕ
 yes_value b = cond b 1 0
 
 -- number and values of each case of the answer
-unfoldable pub check_reply : CheckAnswer → Reply
-check_reply Yes = record { verdict = accept; values = yes_value true ∷ [] }
-check_reply No = record { verdict = accept; values = yes_value false ∷ [] }
-check_reply (Refused x) = record { verdict = refuse x; values = [] }
-
-unfoldable pub check_answered : Bool → CheckAnswer
-check_answered true = Yes
-check_answered false = No
+unfoldable pub check_reply : Result Bool Refusal → Reply
+check_reply (Ok is) = record { verdict = accept; values = yes_value is ∷ [] }
+check_reply (Err x) = record { verdict = refuse x; values = [] }
 
 -- the conditions on both files, then those on the centre and the bytes
 unfoldable pub check_conditions : CircuitFile → CircuitFile → ℕ → ℕ → ℕ → List Condition

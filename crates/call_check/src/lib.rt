@@ -6,33 +6,15 @@ ghost use Rattle.std.specs.Prelude.{◌≡◌};
 ghost use Rattle.file_format.specs.Circuit.{Drawn};
 ghost use Rattle.file_format.specs.Layout.{in_edition};
 ghost use Rattle.graph.specs.Circuit.{circuit};
-ghost use Rattle.call_check.specs.Call.{check_answered, check_reply, check_on, check_call};
+ghost use Rattle.call_check.specs.Call.{check_reply, check_on, check_call};
 
 use crate::circuits::check_circuits;
 use call_decide::bytes::bytes_verdict;
-use file_format::{Board, Editions, FileVerdict, Pattern, Refusal, Role};
+use file_format::{Board, Editions, Pattern, Refusal, Role};
 use file_pair::read_pair;
 use place::{Around, Asked};
 
 mod circuits;
-
-// Yes or no, or why the call was turned away.
-#[derive(Clone, Copy)]
-pub enum CheckAnswer {
-    Yes,
-    No,
-    Refused(Refusal),
-}
-
-// The answer to a question that was put.
-fn judged(is: bool) -> CheckAnswer
-    ensures { result ≡ check_answered is }
-{
-    if is {
-        return CheckAnswer::Yes;
-    }
-    CheckAnswer::No
-}
 
 // The call on two circuits that were read: labels, starts and ends of the pattern's, then of the board's.
 fn check_on(
@@ -45,25 +27,22 @@ fn check_on(
     asked: Asked,
     nodes: &[u8],
     link_bytes: &[u8],
-) -> CheckAnswer
+) -> Result<bool, Refusal>
     requires { let p = circuit pk.now ps.now pe.now in let b = circuit nk.now ns.old ne.old in Drawn p b }
     ensures { let p = circuit pk.now ps.now pe.now in let b = circuit nk.now ns.old ne.old in check_reply result
         ≡ check_on asked.radius p b asked.centre nodes.now link_bytes.now }
 {
     let centre = asked.centre;
-    let verdict = bytes_verdict(nk.len(), ns.len(), centre, nodes.len(), link_bytes.len());
-    if let FileVerdict::Refused(x) = verdict {
-        return CheckAnswer::Refused(x);
-    }
+    bytes_verdict(nk.len(), ns.len(), centre, nodes.len(), link_bytes.len())?;
     let around = Around {
         centre: centre as u16,
         radius: asked.radius,
     };
-    judged(check_circuits(pk, ps, pe, nk, ns, ne, around, nodes, link_bytes))
+    Ok(check_circuits(pk, ps, pe, nk, ns, ne, around, nodes, link_bytes))
 }
 
-// Whether the bytes are a perfect subgraph around the centre at the pattern's radius, largest or not, each
-// file in its edition. Nothing is written.
+// Whether the bytes are a perfect subgraph around the centre at the pattern's radius, largest or not, each file in its
+// edition; or why the call was turned away. Nothing is written.
 pub fn check(
     editions: Editions,
     pattern: &[u8],
@@ -71,7 +50,7 @@ pub fn check(
     centre: usize,
     nodes: &[u8],
     link_bytes: &[u8],
-) -> CheckAnswer
+) -> Result<bool, Refusal>
     ensures { check_reply result ≡ check_call (in_edition editions.pattern pattern.now)
         (in_edition editions.board board.now) centre nodes.now link_bytes.now }
 {
@@ -92,11 +71,7 @@ pub fn check(
         &mut nk,
         &mut ns,
         &mut ne,
-    );
-    let verdict = read.verdict;
-    if let FileVerdict::Refused(x) = verdict {
-        return CheckAnswer::Refused(x);
-    }
+    )?;
     let radius = read.radius;
     let parts = read.parts;
     let joins = read.joins;

@@ -1,5 +1,5 @@
 -- What the converter comes to, by cases: a refused file, a package that would be lost, too few bytes lent, or the new file. Assumes nothing.
-use Rattle.std.specs.Prelude.{◌≡◌, ◌++◌, ◌≤◌, ◌<◌}
+use Rattle.std.specs.Prelude.{◌≡◌, ◌++◌, ◌≤◌, ◌<◌, Result, Ok, Err}
 use Rattle.base_lists.specs.Kit.{◌∙◌, sym, ap, refl, false, true, List, ℕ, le_trans, length, get_or, take, drop, length-take-le, take_at, get_or-take, arith, le-ltb, lt-ltb}
 use native.Mathlib.Decide.{dec_lt}
 use Rattle.base_lists.specs.List.{Below}
@@ -8,66 +8,55 @@ use Rattle.base_lists.proofs.Tests.{T_true}
 use Rattle.file_format.specs.declared.Edition.{Edition}
 use Rattle.file_format.specs.declared.Edition.TheVariants.{First, Second}
 use Rattle.file_format.specs.declared.File.TheVariants.{Neither}
-use Rattle.file_format.specs.declared.ReadAnswer.{ReadAnswer}
-use Rattle.file_format.specs.declared.ReadAnswer.TheVariants as read
 use Rattle.file_format.specs.declared.Refusal.{Refusal}
 use Rattle.file_format.specs.declared.Role.{Role}
+use Rattle.file_format.specs.declared.Size.{Size}
 use Rattle.file_format.specs.Layout.{CircuitFile, in_edition, first_edition, package_count, length_of, nodes_of, links_of, kinds_of, packages_of, starts_of, ends_of}
 use Rattle.file_format.specs.Reading.{ReadOutcome, reading, filled}
 use Rattle.file_format.specs.Refusals.{Verdict, accept, refuse, first, file_conditions, lost_package, package_lost, short_table}
-use Rattle.file_format.specs.Reply.{read_reply, reply}
+use Rattle.file_format.specs.Reply.{reply, read_reply, number_reply}
 use Rattle.file_format.specs.Role.{file_of}
 use Rattle.file_format.proofs.FirstEdition.{first-packages}
 use Rattle.file_format.proofs.Fields.{length-kinds, length-packages, length-starts, length-ends, package-count-le}
 use Rattle.file_format.proofs.Reading.{Filled, reading-refused, reading-filled, reading-accepted}
 use Rattle.file_format.proofs.Refusals.{accepted, first-accept, first-refuse, first_holds, range-bounds}
-use Rattle.file_write.specs.declared.WriteAnswer.{WriteAnswer}
-use Rattle.file_write.specs.declared.WriteAnswer.TheVariants as write
 use Rattle.file_write.specs.Bytes.{file_bytes}
-use Rattle.file_write.specs.Writing.{circuit_conditions, WriteOutcome, writing, write_reply}
+use Rattle.file_write.specs.Writing.{circuit_conditions, WriteOutcome, writing}
 use Rattle.file_write.proofs.Writing.{verdict-links, writing-short, writing-filled}
-use Rattle.call_convert.specs.declared.ConvertAnswer.{ConvertAnswer}
-use Rattle.call_convert.specs.declared.ConvertAnswer.TheVariants.{Converted, Refused}
-use Rattle.call_convert.specs.Call.{every_package, converted_bytes, convert_conditions, convert_reply, ConvertOutcome, converted_by, convert_on, converting}
+use Rattle.call_convert.specs.Call.{every_package, converted_bytes, convert_conditions, ConvertOutcome, converted_by, convert_on, converting}
 
 -- ---- a circuit that was read
 
--- the answer of writing, as the converter's
-unfoldable pub as_converted : WriteAnswer → ConvertAnswer
-as_converted (write.Written size) = Converted size
-as_converted (write.Refused x) = Refused x
-
 module _ (role : Role) (to : Edition) (kinds packages starts ends out : List ℕ) where
   pub on-lost : lost_package to packages ≡ true
-      → record { reply = convert_reply (Refused (record { number = 12; file = file_of role })); out = out } ≡ convert_on role to kinds packages starts ends out
-  unfolding convert_on first package_lost convert_reply reply filled
+      → record { reply = number_reply (Err (record { number = 12; file = file_of role })); out = out } ≡ convert_on role to kinds packages starts ends out
+  unfolding convert_on first package_lost number_reply reply filled
   on-lost e = simp e
 
   on-short : lost_package to packages ≡ false → length out < length_of to (length kinds) (length starts)
-      → record { reply = convert_reply (Refused (record { number = 8; file = Neither })); out = out } ≡ convert_on role to kinds packages starts ends out
-  unfolding convert_on first package_lost short_table convert_reply reply filled
+      → record { reply = number_reply (Err (record { number = 8; file = Neither })); out = out } ≡ convert_on role to kinds packages starts ends out
+  unfolding convert_on first package_lost short_table number_reply reply filled
   on-short e h = simp (e, lt-ltb _ _ h)
 
   on-filled : lost_package to packages ≡ false → length_of to (length kinds) (length starts) ≤ length out
-      → record { reply = convert_reply (Converted (length_of to (length kinds) (length starts))); out = filled accept (file_bytes to kinds packages starts ends) out }
+      → record { reply = number_reply (Ok (length_of to (length kinds) (length starts))); out = filled accept (file_bytes to kinds packages starts ends) out }
       ≡ convert_on role to kinds packages starts ends out
-  unfolding convert_on first package_lost short_table convert_reply reply
+  unfolding convert_on first package_lost short_table number_reply reply
   on-filled e h = simp (e, le-ltb _ _ h)
 
   -- what writing leaves is what the converter does
   pub on-written : lost_package to packages ≡ false → first (circuit_conditions role to kinds packages starts ends) ≡ accept
-      → (a : WriteAnswer) (after : List ℕ) → record { answer = a; reply = write_reply a; out = after } ≡ writing role to kinds packages starts ends out
-      → record { reply = convert_reply (as_converted a); out = after } ≡ convert_on role to kinds packages starts ends out
-  unfolding as_converted
+      → (a : Result ℕ Refusal) (after : List ℕ) → record { answer = a; reply = number_reply a; out = after } ≡ writing role to kinds packages starts ends out
+      → record { reply = number_reply a; out = after } ≡ convert_on role to kinds packages starts ends out
   on-written kept sound a after e = go (dec_lt (length out) (length_of to (length kinds) (length starts)))
     where
       by : {w : WriteOutcome} → writing role to kinds packages starts ends out ≡ w
-          → record { reply = convert_reply (as_converted w.answer); out = w.out } ≡ convert_on role to kinds packages starts ends out
-          → record { reply = convert_reply (as_converted a); out = after } ≡ convert_on role to kinds packages starts ends out
-      by q r = ap (λ (o : WriteOutcome). record { reply = convert_reply (as_converted o.answer); out = o.out }) (e ∙ q) ∙ r
+          → record { reply = number_reply w.answer; out = w.out } ≡ convert_on role to kinds packages starts ends out
+          → record { reply = number_reply a; out = after } ≡ convert_on role to kinds packages starts ends out
+      by q r = ap (λ (o : WriteOutcome). record { reply = number_reply o.answer; out = o.out }) (e ∙ q) ∙ r
 
       go : Dec (length out < length_of to (length kinds) (length starts))
-          → record { reply = convert_reply (as_converted a); out = after } ≡ convert_on role to kinds packages starts ends out
+          → record { reply = number_reply a; out = after } ≡ convert_on role to kinds packages starts ends out
       go (yes h) = by (writing-short role to kinds packages starts ends out sound h) (on-short kept h)
       go (no h) = by (writing-filled role to kinds packages starts ends out sound (omega arith)) (on-filled kept (omega arith))
 
@@ -94,8 +83,8 @@ module _ (role : Role) (to : Edition) (file : CircuitFile) where
 
   module _ (out : List ℕ) where
     pub converting-refused : (x : Refusal) → first (file_conditions role file) ≡ refuse x
-        → record { reply = convert_reply (Refused x); out = out } ≡ converting role to file out
-    unfolding converting convert_conditions convert_reply reply filled
+        → record { reply = number_reply (Err x); out = out } ≡ converting role to file out
+    unfolding converting convert_conditions number_reply reply filled
     converting-refused x e =
         ap (λ (v : Verdict). converted_by v (length_of to (nodes_of file) (links_of file)) (converted_bytes to file) out) (sym (first-refuse (file_conditions role file) _ x e))
 
@@ -124,31 +113,31 @@ module _ (role : Role) (e : Edition) (bytes ks ps ss es : List ℕ) (k : 512 ≤
   file = in_edition e bytes
 
   -- the tables are never too short
-  filled-whole : first (file_conditions role file) ≡ accept → (reading role file ks ps ss es).answer ≡ read.Read (nodes_of file) (links_of file)
+  filled-whole : first (file_conditions role file) ≡ accept → (reading role file ks ps ss es).answer ≡ Ok (record { nodes = nodes_of file; links = links_of file })
   filled-whole a =
       let (n, m) = range-bounds role (nodes_of file) (links_of file) (accepted role file a).range in
       ap (λ (o : ReadOutcome). o.answer)
       (reading-filled role file ks ps ss es a (le_trans n k) (le_trans (package-count-le e (nodes_of file)) (le_trans n p)) (le_trans m s) (le_trans m t))
 
   -- so that what reading refuses, its conditions on the file do
-  pub whole-refused : (x : Refusal) → (reading role file ks ps ss es).answer ≡ read.Refused x → first (file_conditions role file) ≡ refuse x
+  pub whole-refused : (x : Refusal) → (reading role file ks ps ss es).answer ≡ Err x → first (file_conditions role file) ≡ refuse x
   whole-refused x q = go (first (file_conditions role file)) refl
     where
       go : (v : Verdict) → first (file_conditions role file) ≡ v → first (file_conditions role file) ≡ refuse x
-      go accept a = let z : read.Refused x ≡ read.Read (nodes_of file) (links_of file) = sym q ∙ filled-whole a in cc
+      go accept a = let z : (reading role file ks ps ss es).answer ≡ Ok (record { nodes = nodes_of file; links = links_of file }) = filled-whole a in cc
       go (refuse y) a =
-          let w : read.Refused x ≡ read.Refused y = sym q ∙ ap (λ (o : ReadOutcome). o.answer) (reading-refused role file ks ps ss es y a) in
+          let w : (reading role file ks ps ss es).answer ≡ Err y = ap (λ (o : ReadOutcome). o.answer) (reading-refused role file ks ps ss es y a) in
           let same : x ≡ y = cc in
           a ∙ ap refuse (sym same)
 
   -- and what it reads stands at the front of the tables
-  module _ (zero : Below 1 ps) (n m : ℕ) (q : (reading role file ks ps ss es).answer ≡ read.Read n m) where
+  module _ (zero : Below 1 ps) (n m : ℕ) (q : (reading role file ks ps ss es).answer ≡ Ok (record { nodes = n; links = m })) where
     f : Filled role file ks ps ss es n m
     f = reading-accepted role file ks ps ss es n m q
 
     outcome : reading role file ks ps ss es ≡ record {
-      answer = read.Read (nodes_of file) (links_of file);
-      reply = read_reply (read.Read (nodes_of file) (links_of file));
+      answer = Ok (record { nodes = nodes_of file; links = links_of file });
+      reply = read_reply (Ok (record { nodes = nodes_of file; links = links_of file }));
       kinds = kinds_of file ++ drop (nodes_of file) ks;
       packages = packages_of file ++ drop (package_count e (nodes_of file)) ps;
       starts = starts_of file ++ drop (links_of file) ss;
@@ -183,15 +172,17 @@ pub record Whole (role : Role) (e : Edition) (bytes : List ℕ) (n m : ℕ) (k p
   pub ends : take m t ≡ ends_of (in_edition e bytes)
 
 module _ (role : Role) (e : Edition) (bytes ks ps ss es : List ℕ)
-    (long : (512 ≤ length ks) × (512 ≤ length ps) × (4096 ≤ length ss) × (4096 ≤ length es)) {a : ReadAnswer} {k p s t : List ℕ}
+    (long : (512 ≤ length ks) × (512 ≤ length ps) × (4096 ≤ length ss) × (4096 ≤ length es)) {a : Result Size Refusal} {k p s t : List ℕ}
     (o : record { answer = a; reply = read_reply a; kinds = k; packages = p; starts = s; ends = t } ≡ reading role (in_edition e bytes) ks ps ss es) where
-  pub whole-turned : {x : Refusal} → a ≡ read.Refused x → first (file_conditions role (in_edition e bytes)) ≡ refuse x
+  pub whole-turned : {x : Refusal} → a ≡ Err x → first (file_conditions role (in_edition e bytes)) ≡ refuse x
   whole-turned {x} q =
       whole-refused role e bytes ks ps ss es long.0 long.1 long.2 long.3 x (sym (ap (λ (o : ReadOutcome). o.answer) o) ∙ q)
 
-  pub whole-read : Below 1 ps → {n m : ℕ} → a ≡ read.Read n m → Whole role e bytes n m k p s t
-  whole-read zero {n} {m} q =
-      let is : (reading role (in_edition e bytes) ks ps ss es).answer ≡ read.Read n m = sym (ap (λ (o : ReadOutcome). o.answer) o) ∙ q in
+  pub whole-read : Below 1 ps → {size : Size} → a ≡ Ok size → Whole role e bytes size.nodes size.links k p s t
+  whole-read zero {size} q =
+      let n = size.nodes in
+      let m = size.links in
+      let is : (reading role (in_edition e bytes) ks ps ss es).answer ≡ Ok size = sym (ap (λ (o : ReadOutcome). o.answer) o) ∙ q in
       let f = reading-accepted role (in_edition e bytes) ks ps ss es n m is in
       record {
         sound = f.sound;

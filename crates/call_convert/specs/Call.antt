@@ -6,11 +6,9 @@ use Rattle.file_format.specs.declared.Edition.{Edition}
 use Rattle.file_format.specs.declared.Role.{Role}
 use Rattle.file_format.specs.Layout.{CircuitFile, length_of, nodes_of, links_of, kinds_of, packages_of, starts_of, ends_of}
 use Rattle.file_format.specs.Reading.{filled}
-use Rattle.file_format.specs.Refusals.{Condition, Verdict, accept, refuse, first, file_conditions, package_lost, short_table}
+use Rattle.file_format.specs.Refusals.{Condition, Verdict, first, file_conditions, package_lost, short_table}
 use Rattle.file_format.specs.Reply.{Reply, reply}
 use Rattle.file_write.specs.Bytes.{file_bytes}
-use Rattle.call_convert.specs.declared.ConvertAnswer.{ConvertAnswer}
-use Rattle.call_convert.specs.declared.ConvertAnswer.TheVariants.{Converted, Refused}
 
 -- a package for each node: "a first-edition file counts as having all packages 0"
 unfoldable pub every_package : CircuitFile → List ℕ
@@ -25,12 +23,7 @@ unfoldable pub convert_conditions : Role → Edition → CircuitFile → ℕ →
 convert_conditions role to file lent =
     file_conditions role file ++ (package_lost role to (every_package file) ∷ short_table (length_of to (nodes_of file) (links_of file)) lent ∷ [])
 
--- number and values of each case of the answer
-unfoldable pub convert_reply : ConvertAnswer → Reply
-convert_reply (Converted size) = record { verdict = accept; values = size ∷ [] }
-convert_reply (Refused x) = record { verdict = refuse x; values = [] }
-
--- the reply, and the bytes lent as the call leaves them
+-- the reply (Reply `number_reply`), and the bytes lent as the call leaves them
 pub record ConvertOutcome : Type 0 where
   pub reply : Reply
   pub out : List ℕ

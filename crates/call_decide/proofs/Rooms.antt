@@ -1,11 +1,9 @@
 -- What the conditions on a centre and on the lengths of what is lent say. Assumes nothing.
-use Rattle.std.specs.Prelude.{◌≡◌, ◌≤◌, ◌<◌}
+use Rattle.std.specs.Prelude.{◌≡◌, ◌≤◌, ◌<◌, Result, Ok, Err}
 use Rattle.base_lists.specs.Kit.{◌∙◌, sym, ap, ℕ, le-ltb, ltb-false, ltb-true, eqb-true, not-false}
-use Rattle.file_format.specs.declared.FileVerdict.{FileVerdict}
-use Rattle.file_format.specs.declared.FileVerdict.TheVariants.{Accepted, Refused}
 use Rattle.file_format.specs.declared.Refusal.{Refusal}
-use Rattle.file_format.specs.Reading.{verdict_of}
 use Rattle.file_format.specs.Refusals.{accept, refuse, first, centre_outside, short_table, other_length}
+use Rattle.file_format.specs.Reply.{verdict_of}
 use Rattle.file_format.proofs.Refusals.{first_holds}
 use Rattle.call_decide.specs.Decide.{room_conditions, place_conditions, ball_room, bytes_conditions}
 
@@ -25,7 +23,7 @@ module _ (n m nodes links table distances : ℕ) where
   room-enough a b c d = simp (le-ltb _ _ a, le-ltb _ _ b, le-ltb _ _ c, le-ltb _ _ d)
 
   -- and the centre is a node
-  pub place-holds : (w : ℕ) {v : FileVerdict} → verdict_of v ≡ first (place_conditions n m w nodes links table distances) → v ≡ Accepted
+  pub place-holds : (w : ℕ) {A : Type 0} {v : Result A Refusal} {a : A} → verdict_of v ≡ first (place_conditions n m w nodes links table distances) → v ≡ Ok a
       → (w < n) × (((n ≤ nodes) × (m ≤ links)) × ((n ≤ table) × (n ≤ distances)))
   unfolding centre_outside verdict_of
   place-holds w says e =
@@ -34,7 +32,7 @@ module _ (n m nodes links table distances : ℕ) where
       (ltb-true w n (not-false _ a), ((b, c), (d, e)))
 
 -- the centre is a node, and the bytes are as many as the nodes and the links
-pub bytes-hold : (n m w nodes links : ℕ) {v : FileVerdict} → verdict_of v ≡ first (bytes_conditions n m w nodes links) → v ≡ Accepted
+pub bytes-hold : (n m w nodes links : ℕ) {A : Type 0} {v : Result A Refusal} {a : A} → verdict_of v ≡ first (bytes_conditions n m w nodes links) → v ≡ Ok a
     → (w < n) × ((nodes ≡ n) × (links ≡ m))
 unfolding centre_outside other_length verdict_of
 bytes-hold n m w nodes links says e =
@@ -44,8 +42,8 @@ bytes-hold n m w nodes links says e =
     (ltb-true w n (not-false _ a), (eqb-true nodes n (not-false _ b), eqb-true links m (not-false _ c)))
 
 -- what the verdict on a ball says: the centre is a node, and there is an entry for each node
-module _ (n w lent : ℕ) {v : FileVerdict} (says : verdict_of v ≡ first (ball_room n w lent)) where
-  pub ball-holds : v ≡ Accepted → (w < n) × (n ≤ lent)
+module _ (n w lent : ℕ) {A : Type 0} {v : Result A Refusal} (says : verdict_of v ≡ first (ball_room n w lent)) where
+  pub ball-holds : {a : A} → v ≡ Ok a → (w < n) × (n ≤ lent)
   unfolding centre_outside short_table verdict_of
   ball-holds e =
       let (a, e₁) = first_holds _ _ (sym says ∙ ap verdict_of e) in
@@ -53,6 +51,6 @@ module _ (n w lent : ℕ) {v : FileVerdict} (says : verdict_of v ≡ first (ball
       (ltb-true w n (not-false _ a), ltb-false lent n b)
 
   -- or what refuses it
-  pub ball-refuses : {x : Refusal} → v ≡ Refused x → first (ball_room n w lent) ≡ refuse x
+  pub ball-refuses : {x : Refusal} → v ≡ Err x → first (ball_room n w lent) ≡ refuse x
   unfolding verdict_of
   ball-refuses e = sym says ∙ ap verdict_of e

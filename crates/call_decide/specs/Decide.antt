@@ -1,16 +1,14 @@
 -- What a call decides by numbers alone, once its files are read.
-use Rattle.std.specs.Prelude.{◌∷◌}
+use Rattle.std.specs.Prelude.{Option, Some, None, ◌∷◌}
 use Rattle.base_lists.specs.Kit.{List, [], ℕ}
 use Rattle.file_format.specs.declared.File.TheVariants.{Neither}
 use Rattle.file_format.specs.declared.Refusal.{Refusal}
 use Rattle.file_format.specs.Refusals.{Condition, centre_outside, short_table, other_length}
-use Rattle.call_decide.specs.declared.Reach.{Reach}
-use Rattle.call_decide.specs.declared.Reach.TheVariants.{Own, Given}
 
 -- "One call uses the pattern's radius, one a radius given."
-unfoldable pub radius_for : Reach → ℕ → ℕ
-radius_for Own own = own
-radius_for (Given r) own = r
+unfoldable pub radius_for : Option ℕ → ℕ → ℕ
+radius_for None own = own
+radius_for (Some r) own = r
 
 -- number 8, of neither file
 abbrev pub too_short : Refusal

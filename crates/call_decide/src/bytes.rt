@@ -1,10 +1,10 @@
 // What is decided of a place from elsewhere, by its centre and how many bytes it has.
 ghost use Rattle.std.specs.Prelude.{◌≡◌};
-ghost use Rattle.file_format.specs.Reading.{verdict_of};
 ghost use Rattle.file_format.specs.Refusals.{first};
+ghost use Rattle.file_format.specs.Reply.{verdict_of};
 ghost use Rattle.call_decide.specs.Decide.{bytes_conditions};
 
-use file_format::{File, FileVerdict, OUTSIDE, Refusal};
+use file_format::{File, OUTSIDE, Refusal};
 
 // Bytes of another length than N or M, which mean neither file.
 const OTHER_LENGTH: Refusal = Refusal {
@@ -13,17 +13,23 @@ const OTHER_LENGTH: Refusal = Refusal {
 };
 
 // The verdict on a proposal of so many node bytes and link bytes: 7 for the centre, then 3 for the bytes.
-pub fn bytes_verdict(n: usize, m: usize, centre: usize, nodes: usize, links: usize) -> FileVerdict
+pub fn bytes_verdict(
+    n: usize,
+    m: usize,
+    centre: usize,
+    nodes: usize,
+    links: usize,
+) -> Result<(), Refusal>
     ensures { verdict_of result ≡ first (bytes_conditions n m centre nodes links) }
 {
     if n <= centre {
-        return FileVerdict::Refused(OUTSIDE);
+        return Err(OUTSIDE);
     }
     if nodes != n {
-        return FileVerdict::Refused(OTHER_LENGTH);
+        return Err(OTHER_LENGTH);
     }
     if links != m {
-        return FileVerdict::Refused(OTHER_LENGTH);
+        return Err(OTHER_LENGTH);
     }
-    FileVerdict::Accepted
+    Ok(())
 }

@@ -3,44 +3,21 @@
 #![tactic(auto)]
 
 ghost use Rattle.std.specs.Prelude.{cond, ◌≡◌};
-ghost use Rattle.file_format.specs.Reading.{verdict_of};
 ghost use Rattle.file_format.specs.Refusals.{accept, refuse, first};
-ghost use Rattle.table.specs.Reply.{no_counts};
+ghost use Rattle.file_format.specs.Reply.{verdict_of};
 ghost use Rattle.call_decide.specs.Decide.{radius_for, too_short, room_conditions, place_conditions};
 
-use file_format::{FileVerdict, OUTSIDE, TOO_SHORT};
-use table::Counts;
+use file_format::{OUTSIDE, Refusal, TOO_SHORT};
 
 pub mod ball;
 pub mod bytes;
 
-// At which radius a place is asked for: the pattern's own, or one given.
-#[derive(Clone, Copy)]
-pub enum Reach {
-    Own,
-    Given(u16),
-}
-
-// The radius that is asked for, where the pattern's own is known.
-pub fn radius_for(reach: Reach, own: u16) -> u16
+// The radius at which a place is asked for: the one given, or the pattern's own where none is given.
+#[tactic(auto, unfolding(crate::specs::Decide::radius_for))]
+pub fn radius_for(reach: Option<u16>, own: u16) -> u16
     ensures { result ≡ radius_for reach own }
 {
-    match reach {
-        Reach::Own => own,
-        Reach::Given(r) => r,
-    }
-}
-
-// The counts of a call in which nothing is searched.
-pub fn no_counts() -> Counts
-    ensures { result ≡ no_counts }
-{
-    Counts {
-        started: 0,
-        kept: 0,
-        struck: 0,
-        rounds: 0,
-    }
+    reach.unwrap_or(own)
 }
 
 // How many entries each of the four tables has that are lent to a place call.
@@ -73,16 +50,16 @@ fn tables_fit(n: usize, m: usize, lent: Lengths) -> bool
 }
 
 // The verdict on a place call: 7 for the centre, then 8 for the tables.
-pub fn place_verdict(n: usize, m: usize, centre: usize, lent: Lengths) -> FileVerdict
+pub fn place_verdict(n: usize, m: usize, centre: usize, lent: Lengths) -> Result<(), Refusal>
     ensures { verdict_of result
         ≡ first (place_conditions n m centre lent.nodes lent.links lent.table lent.distances) }
 {
     let room = tables_fit(n, m, lent);
     if n <= centre {
-        return FileVerdict::Refused(OUTSIDE);
+        return Err(OUTSIDE);
     }
     if !room {
-        return FileVerdict::Refused(TOO_SHORT);
+        return Err(TOO_SHORT);
     }
-    FileVerdict::Accepted
+    Ok(())
 }

@@ -7,19 +7,10 @@ use Rattle.graph.specs.Search.{distances, radius}
 use Rattle.file_format.specs.declared.Role.TheVariants.{Pattern, Board}
 use Rattle.file_format.specs.Layout.{CircuitFile, nodes_of, starts_of, ends_of}
 use Rattle.file_format.specs.Reading.{filled}
-use Rattle.file_format.specs.Refusals.{Condition, accept, refuse, first, file_conditions, centre_outside, short_table}
+use Rattle.file_format.specs.Refusals.{Condition, first, file_conditions, centre_outside, short_table}
 use Rattle.file_format.specs.Reply.{Reply, reply}
-use Rattle.call_distance.specs.declared.RadiusAnswer.{RadiusAnswer}
-use Rattle.call_distance.specs.declared.RadiusAnswer.TheVariants as radius-answer
-use Rattle.call_distance.specs.declared.BallAnswer.{BallAnswer}
-use Rattle.call_distance.specs.declared.BallAnswer.TheVariants as ball-answer
 
 -- ---- the radius: "A call replies with it."
-
--- number and values of each case of its answer
-unfoldable pub radius_reply : RadiusAnswer → Reply
-radius_reply (radius-answer.Radius d) = record { verdict = accept; values = d ∷ [] }
-radius_reply (radius-answer.Refused x) = record { verdict = refuse x; values = [] }
 
 -- refused by the pattern's 1 to 6 and 11
 unfoldable pub radius_call : CircuitFile → Reply
@@ -27,11 +18,6 @@ radius_call file = reply (first (file_conditions Pattern file)) (radius (nodes_o
 
 -- ---- the ball lookup: it "takes a board, a centre and a radius .. it replies with N" and "fills N entries of 16 bits in place of its bytes:
 -- each node's distance from the centre, and 65,535 for a node outside the ball" (document 02, Ask 2)
-
--- number and values of each case of its answer
-unfoldable pub ball_reply : BallAnswer → Reply
-ball_reply (ball-answer.Ball n) = record { verdict = accept; values = n ∷ [] }
-ball_reply (ball-answer.Refused x) = record { verdict = refuse x; values = [] }
 
 -- the board's 1 to 5, then 7 for the centre and 8 for the table: "Needed: .. ball N"
 unfoldable pub ball_conditions : CircuitFile → ℕ → ℕ → List Condition

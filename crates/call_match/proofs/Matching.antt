@@ -1,5 +1,5 @@
 -- What the call comes to, by cases: a refused file, a short table, or the match. Assumes nothing.
-use Rattle.std.specs.Prelude.{◌≡◌, ◌∷◌, ◌++◌, ◌≤◌, ◌<◌}
+use Rattle.std.specs.Prelude.{◌≡◌, ◌∷◌, ◌++◌, ◌≤◌, ◌<◌, Ok, Err}
 use Rattle.base_lists.specs.Kit.{◌∙◌, sym, ap, ap₂, List, [], ℕ, length, take, drop, le-ltb, lt-ltb}
 use Rattle.graph.specs.Circuit.{Circuit}
 use Rattle.file_format.specs.declared.Role.{Role}
@@ -14,7 +14,6 @@ use Rattle.file_format.proofs.Fields.{length-labels}
 use Rattle.file_format.proofs.Refusals.{first-accept, first-refuse}
 use Rattle.file_pair.specs.Pair.{pair_conditions}
 use Rattle.file_pair.specs.declared.Pair.{Pair}
-use Rattle.call_match.specs.declared.TableAnswer.TheVariants.{Matched, Refused}
 use Rattle.table.specs.declared.Counts.{Counts}
 use Rattle.call_match.specs.Call.{TableOutcome, match_conditions, reply_of, match_on, EveryMatch, matching_by}
 use Rattle.simulation.specs.Simulation.{Direction}
@@ -36,7 +35,7 @@ length-answer ways pattern board = (answer-fits ways (circuit_of pattern) (circu
 
 module _ (ways : List Direction) (p b : Circuit) (table : List ℕ) where
   pub on-short : length table < length b.labels
-      → record { reply = reply_of (Refused (record { number = 8; file = Neither })); table = table } ≡ match_on ways p b table
+      → record { reply = reply_of (Err (record { number = 8; file = Neither })); table = table } ≡ match_on ways p b table
   unfolding match_on first short_table counts_reply reply_of filled
   on-short h = rw (lt-ltb _ _ h)
 
@@ -47,7 +46,7 @@ module _ (ways : List Direction) (p b : Circuit) (table : List ℕ) where
 
   -- the counts are replied with,
   fits-reply : length b.labels ≤ length table → {counts : Counts} → counts ≡ answer_counts_by ways p b (everything b)
-      → reply_of (Matched counts) ≡ (match_on ways p b table).reply
+      → reply_of (Ok counts) ≡ (match_on ways p b table).reply
   unfolding match_on counts_reply reply_of
   fits-reply h e = rw e (ap (λ (v : Verdict). counts_reply v (answer_counts_by ways p b (everything b))) (sym (fits-verdict h)))
 
@@ -60,7 +59,7 @@ module _ (ways : List Direction) (p b : Circuit) (table : List ℕ) where
       prefix ∙ ap (λ (v : Verdict). filled v (answer_by ways p b (everything b)) table) (sym (fits-verdict h))
 
   pub on-matched : length b.labels ≤ length table → {counts : Counts} {last : List ℕ} → AnsweredOn ways p b last counts
-      → record { reply = reply_of (Matched counts); table = last ++ drop (length b.labels) table } ≡ match_on ways p b table
+      → record { reply = reply_of (Ok counts); table = last ++ drop (length b.labels) table } ≡ match_on ways p b table
   on-matched h m = ap₂ (λ (r : MatchReply) (t : List ℕ). record { reply = r; table = t }) (fits-reply h m.counted) (fits-table h m.last)
 
 -- ---- two files
@@ -77,7 +76,7 @@ module _ (ways : List Direction) (pattern board : CircuitFile) (table : List ℕ
   then-table e = first-accept (pair_conditions AnyPattern pattern board) _ e
 
   pub matching-refused : {x : Refusal} → first (pair_conditions AnyPattern pattern board) ≡ refuse x
-      → record { reply = reply_of (Refused x); table = table } ≡ matching_by ways pattern board table
+      → record { reply = reply_of (Err x); table = table } ≡ matching_by ways pattern board table
   unfolding matching_by counts_reply reply_of filled
   matching-refused e = rw (files-first e)
 

@@ -1,6 +1,6 @@
 -- What the exported call's promise means: a refusal is one of the conditions; else the table holds the largest dual
 -- simulation of the pattern in the board, and the counts are those of the row. Assumes nothing.
-use Rattle.std.specs.Prelude.{◌≡◌, ◌↔◌, ◌++◌, ◌≤◌, ◌<◌, ◌+◌, ◌-◌}
+use Rattle.std.specs.Prelude.{◌≡◌, ◌↔◌, ◌++◌, ◌≤◌, ◌<◌, ◌+◌, ◌-◌, Result, Ok, Err}
 use Rattle.base_lists.specs.Kit.{◌∙◌, sym, ap, refl, subst, ⊎_elim, Bool, false, true, cond, not, List, map, ℕ, T, eqb, ltb, length, get_or, take, drop, get_or-append, take_at, drop_at, get_or-take, get_or-append-add, arith, le-ltb}
 use lib.Count.{ones}
 use Rattle.base_lists.specs.List.{sum}
@@ -19,15 +19,13 @@ use Rattle.file_format.specs.Circuit.{circuit_of}
 use Rattle.file_format.specs.Layout.{CircuitFile, nodes_of, links_of, length_of, starts_of, ends_of}
 use Rattle.file_format.specs.Links.{links_below, rising}
 use Rattle.file_format.specs.Reading.{filled}
-use Rattle.file_format.specs.Refusals.{Verdict, accept, refuse, first, without, asks_connected, link_conditions, file_conditions, Accepted, short_table}
+use Rattle.file_format.specs.Refusals.{Verdict, accept, refuse, first, without, asks_connected, link_conditions, file_conditions, Accepted, short_table, turned}
 use Rattle.file_format.specs.Role.{in_range}
 use Rattle.file_format.proofs.Accepted.{accepted-bounded, accepted-below, accepted-within, accepted-connected}
 use Rattle.file_format.proofs.Fields.{length-labels}
-use Rattle.file_format.proofs.Refusals.{accepted, first-accept, first-refuse, first_holds, first-parts, turned, turned-accept, first-same}
+use Rattle.file_format.proofs.Refusals.{accepted, first-accept, first-refuse, first_holds, first-parts, turned-accept, first-same}
 use Rattle.file_pair.specs.Pair.{pair_conditions}
 use Rattle.file_pair.proofs.Both.{pair-accept, pair_parts}
-use Rattle.call_match.specs.declared.TableAnswer.{TableAnswer}
-use Rattle.call_match.specs.declared.TableAnswer.TheVariants.{Matched, Refused}
 use Rattle.table.specs.declared.Counts.{Counts}
 use Rattle.call_match.specs.Call.{match_conditions, reply_of, matched_by, matching_by, matching, connected_conditions, row_outcome, connected_matching}
 use Rattle.table.specs.Answer.{answer_by, answer_counts_by, AnsweredBy}
@@ -42,15 +40,15 @@ use Rattle.call_match.proofs.Matching.{length-answer}
 
 -- ---- the two cases of the answer, told apart by what document 01 says of them
 
-pub reply-matched : (r : TableAnswer) (counts : Counts) → reply_of r ≡ record { verdict = accept; counts = counts } → r ≡ Matched counts
+pub reply-matched : (r : Result Counts Refusal) (counts : Counts) → reply_of r ≡ record { verdict = accept; counts = counts } → r ≡ Ok counts
 unfolding reply_of
-reply-matched (Matched k) counts e = ap (λ (p : MatchReply). Matched p.counts) e
-reply-matched (Refused x) counts e = let apart : refuse x ≡ accept = ap (λ (p : MatchReply). p.verdict) e in cc
+reply-matched (Ok k) counts e = ap (λ (p : MatchReply). Ok p.counts) e
+reply-matched (Err x) counts e = let apart : refuse x ≡ accept = ap (λ (p : MatchReply). p.verdict) e in cc
 
-pub reply-refused : (r : TableAnswer) (x : Refusal) → (reply_of r).verdict ≡ refuse x → r ≡ Refused x
+pub reply-refused : (r : Result Counts Refusal) (x : Refusal) → (reply_of r).verdict ≡ refuse x → r ≡ Err x
 unfolding reply_of
-reply-refused (Matched k) x e = cc
-reply-refused (Refused y) x e = cc
+reply-refused (Ok k) x e = cc
+reply-refused (Err y) x e = cc
 
 -- the first n entries of a table hold what it holds at the nodes below n
 in-prefix : (n : ℕ) (t : List ℕ) (u v : ℕ) → v < n → in_table (take n t) u v ≡ in_table t u v

@@ -1,16 +1,16 @@
 -- The exported call on two files, whole: its reply and the table's later content, from the inputs alone.
-use Rattle.std.specs.Prelude.{◌≡◌, ◌∷◌, ◌++◌}
+use Rattle.std.specs.Prelude.{◌≡◌, ◌∷◌, ◌++◌, Result, Ok, Err}
 use Rattle.base_lists.specs.Kit.{List, [], ℕ, length}
 use Rattle.graph.specs.Circuit.{Circuit, circuit}
 use Rattle.simulation.specs.Simulation.{Direction}
+use Rattle.file_format.specs.declared.Refusal.{Refusal}
 use Rattle.file_format.specs.declared.Role.TheVariants.{Pattern, Board, AnyPattern}
 use Rattle.file_format.specs.Circuit.{circuit_of}
 use Rattle.file_format.specs.Layout.{CircuitFile, nodes_of}
 use Rattle.file_format.specs.Reading.{filled}
 use Rattle.file_format.specs.Refusals.{Condition, Verdict, accept, refuse, first, without, file_conditions, short_table}
 use Rattle.file_pair.specs.Pair.{pair_conditions}
-use Rattle.call_match.specs.declared.TableAnswer.{TableAnswer}
-use Rattle.call_match.specs.declared.TableAnswer.TheVariants.{Matched, Refused}
+use Rattle.table.specs.declared.Counts.{Counts}
 use Rattle.table.specs.Answer.{answer_by, answer_counts_by}
 use Rattle.table.specs.Host.{everything}
 use Rattle.table.specs.Prepared.{Tables, PreparedBy}
@@ -24,9 +24,9 @@ unfoldable pub match_conditions : CircuitFile → CircuitFile → ℕ → List C
 match_conditions pattern board lent = pair_conditions AnyPattern pattern board ++ (short_table (nodes_of board) lent ∷ [])
 
 -- each case of the answer, so read: a refusal has no counts
-unfoldable pub reply_of : TableAnswer → MatchReply
-reply_of (Matched counts) = record { verdict = accept; counts = counts }
-reply_of (Refused x) = record { verdict = refuse x; counts = no_counts }
+unfoldable pub reply_of : Result Counts Refusal → MatchReply
+reply_of (Ok counts) = record { verdict = accept; counts = counts }
+reply_of (Err x) = record { verdict = refuse x; counts = no_counts }
 
 -- the reply, and the table as the call leaves it
 pub record TableOutcome : Type 0 where

@@ -9,17 +9,10 @@ ghost use Rattle.table_whole.specs.Kinds.{SomeLinks};
 ghost use Rattle.call_match.specs.Call.{reply_of, EveryMatch, matching_by, matching, one_way_matching};
 
 use call_prepare::{Reading, read_prepared};
-use file_format::{Board, Editions, FileVerdict, Pattern, Refusal, Role, TOO_SHORT};
+use file_format::{Board, Editions, Pattern, Refusal, Role, TOO_SHORT};
 use graph_neighbours::tables::{OFFSETS, TARGETS};
 use table::{Counts, MASKS, Ways};
 use table_whole::match_whole;
-
-// What the call comes to: the four counts, or why it was turned away.
-#[derive(Clone, Copy)]
-pub enum TableAnswer {
-    Matched(Counts),
-    Refused(Refusal),
-}
 
 // The call on two circuits that were read and prepared. The table's length is tested before anything is written to it.
 fn match_on(
@@ -29,7 +22,7 @@ fn match_on(
     offsets: &[u16],
     targets: &[u16],
     table: &mut [u32],
-) -> TableAnswer
+) -> Result<Counts, Refusal>
     requires { SomeLinks part_labels.now node_labels.now (tables masks.now offsets.now targets.now) }
     ensures { EveryMatch part_labels.now node_labels.now
         (tables masks.now offsets.now targets.now) table.old
@@ -37,9 +30,9 @@ fn match_on(
 {
     let n = node_labels.len();
     if table.len() < n {
-        return TableAnswer::Refused(TOO_SHORT);
+        return Err(TOO_SHORT);
     }
-    TableAnswer::Matched(match_whole(
+    Ok(match_whole(
         part_labels,
         node_labels,
         masks,
@@ -56,7 +49,7 @@ fn match_files(
     pattern: &[u8],
     board: &[u8],
     table: &mut [u32],
-) -> TableAnswer
+) -> Result<Counts, Refusal>
     ensures { record { reply = reply_of result; table = table.new }
         ≡ matching_by (ways_of ways) (in_edition editions.pattern pattern.now)
         (in_edition editions.board board.now) table.old }
@@ -79,11 +72,7 @@ fn match_files(
         &mut masks,
         &mut offsets,
         &mut targets,
-    );
-    let verdict = read.verdict;
-    if let FileVerdict::Refused(x) = verdict {
-        return TableAnswer::Refused(x);
-    }
+    )?;
     let parts = read.parts;
     let n = read.nodes;
     match_on(&pk[..parts], &nk[..n], &masks, &offsets, &targets, table)
@@ -97,7 +86,7 @@ pub fn match_table(
     pattern: &[u8],
     board: &[u8],
     table: &mut [u32],
-) -> TableAnswer
+) -> Result<Counts, Refusal>
     ensures { record { reply = reply_of result; table = table.new }
         ≡ matching (in_edition editions.pattern pattern.now)
         (in_edition editions.board board.now) table.old }
@@ -111,7 +100,7 @@ pub fn match_one_way(
     pattern: &[u8],
     board: &[u8],
     table: &mut [u32],
-) -> TableAnswer
+) -> Result<Counts, Refusal>
     ensures { record { reply = reply_of result; table = table.new }
         ≡ one_way_matching (in_edition editions.pattern pattern.now)
         (in_edition editions.board board.now) table.old }

@@ -1,6 +1,6 @@
 -- What the merging call comes to, by cases: a refused pattern, a short table of classes, too few bytes for the file, or the merged pattern.
 -- Assumes nothing.
-use Rattle.std.specs.Prelude.{◌≡◌, ◌++◌, ◌≤◌, ◌<◌}
+use Rattle.std.specs.Prelude.{◌≡◌, ◌++◌, ◌≤◌, ◌<◌, Ok, Err}
 use Rattle.base_lists.specs.Kit.{◌∙◌, sym, ap, subst, List, [], ℕ, length, get_or, take, drop, le-ltb, lt-ltb}
 use Rattle.graph.specs.Circuit.{Circuit}
 use Rattle.file_format.specs.declared.Edition.{Edition}
@@ -22,11 +22,9 @@ use Rattle.file_write.specs.Writing.{circuit_conditions}
 use Rattle.merge.specs.Merged.{classes}
 use Rattle.merge.proofs.Content.{accepted-content}
 use Rattle.merge.proofs.Classes.{length-classes}
-use Rattle.merge_file.specs.declared.MergedFile.{MergedFile}
+use Rattle.merge_file.specs.declared.Merged.{Merged}
 use Rattle.merge_file.specs.Merged.{MergedFrom}
-use Rattle.call_merge.specs.declared.MergeAnswer.{MergeAnswer}
-use Rattle.call_merge.specs.declared.MergeAnswer.TheVariants.{Refused}
-use Rattle.call_merge.specs.Call.{merge_conditions, answer_of, merge_reply, merged_bytes, merging}
+use Rattle.call_merge.specs.Call.{merge_conditions, merge_reply, merged_bytes, merging}
 use Rattle.merge_file.proofs.Written.{content-sound}
 
 -- ---- the pattern that was read
@@ -79,43 +77,43 @@ module _ (file : CircuitFile) (lent out : List ℕ) where
 
   refused :
       (x : Refusal) → first (merge_conditions file (length lent) (length out)) ≡ refuse x →
-      record { reply = merge_reply (Refused x); classes = lent; out = out } ≡ merging file lent out
+      record { reply = merge_reply (Err x); classes = lent; out = out } ≡ merging file lent out
   unfolding merging merge_reply reply filled
   refused x e = rw e
 
   merged :
       first (merge_conditions file (length lent) (length out)) ≡ accept →
-      {made : MergedFile} {bytes after : List ℕ} → MergedFrom file.edition (circuit_of file) made bytes out after →
-      record { reply = merge_reply (answer_of made.classes made.written); classes = bytes ++ drop (nodes_of file) lent; out = after } ≡ merging file lent out
-  unfolding merging merge_reply answer_of merged_bytes reply filled
+      {made : Merged} {bytes after : List ℕ} → MergedFrom file.edition (circuit_of file) made bytes out after →
+      record { reply = merge_reply (Ok made); classes = bytes ++ drop (nodes_of file) lent; out = after } ≡ merging file lent out
+  unfolding merging merge_reply merged_bytes reply filled
   merged e m =
       let size : length (classes (circuit_of file)) ≡ nodes_of file = length-classes (circuit_of file) ∙ length-labels file in
-      rw (e, m.counted, m.answered, m.numbered, m.stored, size)
+      rw (e, m.counted, m.sized, m.numbered, m.stored, size)
 
   -- ---- as the call goes
 
   pub merging-file :
       (x : Refusal) → first (file_conditions Pattern file) ≡ refuse x →
-      record { reply = merge_reply (Refused x); classes = lent; out = out } ≡ merging file lent out
+      record { reply = merge_reply (Err x); classes = lent; out = out } ≡ merging file lent out
   merging-file x e = refused x (verdict-file x e)
 
   -- The file was read.
   module _ {n m : ℕ} {t : Circuit} (sound : first (file_conditions Pattern file) ≡ accept) (drawn : Stands file n m t) where
     pub merging-classes :
         length lent < n →
-        record { reply = merge_reply (Refused (record { number = 8; file = Neither })); classes = lent; out = out } ≡ merging file lent out
+        record { reply = merge_reply (Err (record { number = 8; file = Neither })); classes = lent; out = out } ≡ merging file lent out
     merging-classes h = refused _ (verdict-classes sound (rw (← drawn.nodes) h))
 
     module _ (enough : n ≤ length lent) where
       pub merging-out :
           length out < length file.bytes →
-          record { reply = merge_reply (Refused (record { number = 8; file = Neither })); classes = lent; out = out } ≡ merging file lent out
+          record { reply = merge_reply (Err (record { number = 8; file = Neither })); classes = lent; out = out } ≡ merging file lent out
       merging-out h = refused _ (verdict-out sound (rw (← drawn.nodes) enough) h)
 
       pub merging-merged :
-          length file.bytes ≤ length out → {answer : MergeAnswer} {made : MergedFile} {bytes after : List ℕ} → answer ≡ answer_of made.classes made.written →
+          length file.bytes ≤ length out → {made : Merged} {bytes after : List ℕ} →
           MergedFrom file.edition (prefix n m t) made bytes out after →
-          record { reply = merge_reply answer; classes = bytes ++ drop n lent; out = after } ≡ merging file lent out
-      merging-merged h told made =
-          rw (drawn.nodes, told)
+          record { reply = merge_reply (Ok made); classes = bytes ++ drop n lent; out = after } ≡ merging file lent out
+      merging-merged h made =
+          rw drawn.nodes
           (merged (verdict-accept sound (rw (← drawn.nodes) enough) h) (rw drawn.content at made))

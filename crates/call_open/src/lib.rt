@@ -9,14 +9,14 @@ ghost use Rattle.table.specs.Prepared.{tables};
 ghost use Rattle.call_open.specs.Opened.{LinesRoom, SomePrepared, EveryOpened, Opened};
 
 use call_prepare::{Reading, read_prepared};
-use file_format::{Board, Editions, FileVerdict, Pattern, Role};
+use file_format::{Board, Editions, Pattern, Refusal, Role};
 use file_pair::Pair;
 use place_components::components;
 use table::Ways;
 use table_whole::match_tables;
 
 // Leaves the whole board's match table and its components at the fronts of the tables, for the lines from the centre
-// `from` on of two files that were read and prepared; nothing is matched where a file is refused, or no lines are left.
+// `from` on of two accepted files that were read and prepared; nothing is matched where no lines are left.
 fn fill_lines(
     from: usize,
     read: Pair,
@@ -34,10 +34,6 @@ fn fill_lines(
     ensures { let t = tables masks.now offsets.now targets.now in EveryOpened from read pk.now nk.now t
         whole.new component_of.new sizes.new }
 {
-    let verdict = read.verdict;
-    let FileVerdict::Accepted = verdict else {
-        return;
-    };
     let n = read.nodes;
     if n < from {
         return;
@@ -69,7 +65,7 @@ pub fn open(
     whole: &mut [u32],
     component_of: &mut [u16],
     sizes: &mut [u16],
-) -> Pair
+) -> Result<Pair, Refusal>
     requires masks_len { (length masks.old ≡ 64) × NetRoom offsets.old targets.old }
     requires lines_room { LinesRoom whole.old component_of.old sizes.old }
     ensures { Opened from (in_edition editions.pattern pattern.now)
@@ -86,7 +82,7 @@ pub fn open(
     };
     let read = read_prepared(
         reading, pattern, board, &mut pk, &mut nk, masks, offsets, targets,
-    );
+    )?;
     fill_lines(
         from,
         read,
@@ -99,5 +95,5 @@ pub fn open(
         component_of,
         sizes,
     );
-    read
+    Ok(read)
 }

@@ -6,15 +6,15 @@ ghost use Rattle.table.specs.Prepared.{tables};
 ghost use Rattle.call_open.specs.Opened.{SomeOpened};
 ghost use Rattle.call_piece.specs.Reported.{EveryReported};
 
-use file_format::FileVerdict;
+use file_format::{Refusal, TOO_SHORT};
 use file_pair::Pair;
-use report_answer::{ReportAnswer, answer_by, too_short};
+use report_answer::answer_refused;
 use report_centres::{Resume, put_lines};
-use report_pieces::{LONGEST, put_nothing};
+use report_pieces::{LONGEST, PutPiece, put_nothing};
 
 // A piece of the report of two files that were opened, as `report` puts it.
 pub fn put(
-    read: Pair,
+    read: Result<Pair, Refusal>,
     masks: &[u32],
     offsets: &[u16],
     targets: &[u16],
@@ -24,29 +24,29 @@ pub fn put(
     from: usize,
     found: u16,
     out: &mut [u8],
-) -> ReportAnswer
+) -> Result<PutPiece, Refusal>
     requires { let t = tables masks.now offsets.now targets.now in SomeOpened from read t whole.now component_of.now sizes.now }
     ensures { let t = tables masks.now offsets.now targets.now in EveryReported from found read t
         whole.now component_of.now sizes.now
         out.old (record { reply = report_reply result; out = out.new }) }
 {
-    let verdict = read.verdict;
-    let FileVerdict::Accepted = verdict else {
-        return answer_by(verdict, from, found, out);
+    let pair = match read {
+        Ok(pair) => pair,
+        Err(x) => return answer_refused(x, from, found, out),
     };
     if out.len() < LONGEST {
-        return too_short();
+        return Err(TOO_SHORT);
     }
-    let nodes = read.nodes;
+    let nodes = pair.nodes;
     if nodes < from {
-        return ReportAnswer::Put(put_nothing(from, found));
+        return Ok(put_nothing(from, found));
     }
     let resume = Resume {
-        radius: read.radius,
+        radius: pair.radius,
         from,
         found,
     };
-    ReportAnswer::Put(put_lines(
+    Ok(put_lines(
         masks,
         offsets,
         targets,

@@ -1,15 +1,13 @@
 -- What the call comes to, by cases: a refused file, a centre outside, a short table, or what is found. Assumes nothing.
-use Rattle.std.specs.Prelude.{◌≡◌}
+use Rattle.std.specs.Prelude.{Option, ◌≡◌, Result, Ok, Err}
 use Rattle.base_lists.specs.Kit.{◌∙◌, sym, ap, List, ℕ, length, take}
 use Rattle.graph.specs.Circuit.{Circuit}
 use Rattle.file_format.specs.declared.Role.TheVariants.{Pattern}
-use Rattle.file_format.specs.declared.FileVerdict.{FileVerdict}
-use Rattle.file_format.specs.declared.FileVerdict.TheVariants as file
 use Rattle.file_format.specs.declared.Refusal.{Refusal}
 use Rattle.file_format.specs.Circuit.{circuit_of}
 use Rattle.file_format.specs.Layout.{CircuitFile, nodes_of, links_of, starts_of, ends_of}
-use Rattle.file_format.specs.Reading.{verdict_of}
 use Rattle.file_format.specs.Refusals.{Verdict, accept, refuse, first}
+use Rattle.file_format.specs.Reply.{verdict_of}
 use Rattle.file_format.proofs.Fields.{length-labels, length-starts}
 use Rattle.file_format.proofs.Refusals.{first-accept, first-refuse}
 use Rattle.file_pair.specs.declared.Pair.{Pair}
@@ -17,11 +15,9 @@ use Rattle.file_pair.specs.Pair.{pair_conditions}
 use Rattle.table.specs.Prepared.{Tables}
 use Rattle.table.specs.Row.{both_directions}
 use Rattle.table.specs.Reply.{no_counts}
-use Rattle.place.specs.declared.PlaceAnswer.TheVariants.{Refused}
 use Rattle.place.specs.Match.{radius_of}
 use Rattle.place.specs.Outcome.{PlaceOutcome, place_reply, place_around}
 use Rattle.place_circuits.specs.Drawn.{SomeDrawn, EveryDrawn}
-use Rattle.call_decide.specs.declared.Reach.{Reach}
 use Rattle.call_decide.specs.Decide.{place_conditions, radius_for}
 use Rattle.call_place.specs.Call.{input_conditions, decided, place_at, place_on}
 use Rattle.call_prepare.specs.Read.{BothPrepared}
@@ -30,7 +26,7 @@ use Rattle.call_prepare.proofs.Ready.{ready-prepared, ready-radius}
 -- a call that is turned away leaves the four tables as they were
 abbrev pub untouched : Refusal → List ℕ → List ℕ → List ℕ → List ℕ → PlaceOutcome
 untouched x nodes links table distances =
-    record { reply = place_reply (Refused x no_counts); nodes = nodes; links = links; table = table; distances = distances }
+    record { reply = place_reply (Err (record { refusal = x; counts = no_counts })); nodes = nodes; links = links; table = table; distances = distances }
 
 -- ---- two circuits
 
@@ -54,11 +50,11 @@ module _ (r : ℕ) (p b : Circuit) (w : ℕ) (nodes links table distances : List
     abbrev told : Verdict
     told = first (place_conditions (length b.labels) m w (length nodes) (length links) (length table) (length distances))
 
-    pub on-refused : {v : FileVerdict} {x : Refusal} → verdict_of v ≡ told → v ≡ file.Refused x → untouched x nodes links table distances ≡ result
+    pub on-refused : {A : Type 0} {v : Result A Refusal} {x : Refusal} → verdict_of v ≡ told → v ≡ Err x → untouched x nodes links table distances ≡ result
     unfolding verdict_of
     on-refused says e = refused (rw last at (sym says ∙ ap verdict_of e))
 
-    pub on-placed : {v : FileVerdict} → verdict_of v ≡ told → v ≡ file.Accepted → {o : PlaceOutcome}
+    pub on-placed : {A : Type 0} {v : Result A Refusal} {a : A} → verdict_of v ≡ told → v ≡ Ok a → {o : PlaceOutcome}
         → o ≡ place_around p b w r nodes links table distances → o ≡ result
     unfolding verdict_of
     on-placed says e = searched (rw last at (sym says ∙ ap verdict_of e))
@@ -78,7 +74,7 @@ ready-drawn {pattern} {board} b =
       prepared = ready-prepared b;
     }
 
-module _ (reach : Reach) (pattern board : CircuitFile) (w : ℕ) (nodes links table distances : List ℕ) where
+module _ (reach : Option ℕ) (pattern board : CircuitFile) (w : ℕ) (nodes links table distances : List ℕ) where
   -- what the call comes to
   abbrev outcome : PlaceOutcome
   outcome = place_at pattern board w (radius_for reach (radius_of (circuit_of pattern))) nodes links table distances

@@ -5,39 +5,27 @@
 ghost use Rattle.std.specs.Prelude.{◌≡◌};
 ghost use Rattle.file_format.specs.Circuit.{circuit_of};
 ghost use Rattle.file_format.specs.Layout.{in_edition};
-ghost use Rattle.file_format.specs.Reading.{verdict_of};
 ghost use Rattle.table.specs.Prepared.{tables};
-ghost use Rattle.table.specs.Reply.{no_counts};
 ghost use Rattle.place.specs.Match.{radius_of};
-ghost use Rattle.place.specs.Outcome.{place_reply};
 ghost use Rattle.place_circuits.specs.Drawn.{placed_as, SomeDrawn, EveryDrawn};
 ghost use Rattle.call_decide.specs.Decide.{radius_for};
 ghost use Rattle.call_place.specs.Call.{place_on, place_at};
 
-use call_decide::{Lengths, Reach, no_counts, place_verdict, radius_for};
+use call_decide::{Lengths, place_verdict, radius_for};
 use call_prepare::{Reading, read_prepared};
-use file_format::{Board, Editions, FileVerdict, Pattern, Role};
+use file_format::{Board, Editions, Pattern, Role};
 use graph_neighbours::tables::{OFFSETS, TARGETS};
-use place::{Around, Asked, PlaceAnswer};
+use place::{Around, Asked, NoPlace};
 use place_circuits::place_circuits;
-use table::{MASKS, Ways};
+use table::{Counts, MASKS, Ways};
 
-// What is asked of two files: around which node of the board, in which editions, and at which radius.
+// What is asked of two files: around which node of the board, in which editions, and at which radius, `None` for the
+// pattern's own.
 #[derive(Clone, Copy)]
 pub struct Question {
     pub centre: usize,
     pub editions: Editions,
-    pub reach: Reach,
-}
-
-// The answer by the verdict on two files alone: nothing is searched, and nothing counted.
-fn answer_by(verdict: FileVerdict) -> PlaceAnswer
-    ensures { place_reply result ≡ record { verdict = verdict_of verdict; counts = no_counts } }
-{
-    match verdict {
-        FileVerdict::Accepted => PlaceAnswer::Placed(no_counts()),
-        FileVerdict::Refused(x) => PlaceAnswer::Refused(x, no_counts()),
-    }
+    pub reach: Option<u16>,
 }
 
 // The call on two circuits that were read and prepared. Everything is tested, and the place found, before anything is
@@ -53,7 +41,7 @@ fn find_on(
     link_bytes: &mut [u8],
     table: &mut [u32],
     distances: &mut [u16],
-) -> PlaceAnswer
+) -> Result<Counts, NoPlace>
     requires { SomeDrawn part_labels.now node_labels.now (tables masks.now offsets.now targets.now) }
     ensures { EveryDrawn part_labels.now node_labels.now
         (tables masks.now offsets.now targets.now)
@@ -70,10 +58,7 @@ fn find_on(
         distances: distances.len(),
     };
     let centre = asked.centre;
-    let verdict = place_verdict(n, m, centre, lent);
-    let FileVerdict::Accepted = verdict else {
-        return answer_by(verdict);
-    };
+    place_verdict(n, m, centre, lent)?;
     let around = Around {
         centre: centre as u16,
         radius: asked.radius,
@@ -103,7 +88,7 @@ pub fn place(
     link_bytes: &mut [u8],
     table: &mut [u32],
     distances: &mut [u16],
-) -> PlaceAnswer
+) -> Result<Counts, NoPlace>
     ensures { placed_as result nodes.new link_bytes.new table.new
         distances.new
         ≡ place_at (in_edition question.editions.pattern pattern.now)
@@ -131,11 +116,7 @@ pub fn place(
         &mut masks,
         &mut offsets,
         &mut targets,
-    );
-    let verdict = read.verdict;
-    let FileVerdict::Accepted = verdict else {
-        return answer_by(verdict);
-    };
+    )?;
     let reach = question.reach;
     let asked = Asked {
         centre: question.centre,

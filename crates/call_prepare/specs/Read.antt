@@ -1,13 +1,14 @@
 -- Two files that were read for a search, with what it looks up.
-use Rattle.std.specs.Prelude.{List, ◌≡◌, ℕ, ◌≤◌, T, length, take}
+use Rattle.std.specs.Prelude.{List, ◌≡◌, ℕ, ◌≤◌, T, length, take, Result, Ok}
 use Rattle.graph.specs.Search.{radius}
 use Rattle.simulation.specs.Simulation.{Direction}
+use Rattle.file_format.specs.declared.Refusal.{Refusal}
 use Rattle.file_format.specs.declared.Role.{Role}
 use Rattle.file_format.specs.declared.Role.TheVariants.{Pattern}
 use Rattle.file_format.specs.Circuit.{circuit_of, Drawn}
 use Rattle.file_format.specs.Layout.{CircuitFile, nodes_of, labels_of, starts_of, ends_of}
-use Rattle.file_format.specs.Reading.{verdict_of}
-use Rattle.file_format.specs.Refusals.{accept, first, asks_connected}
+use Rattle.file_format.specs.Reply.{verdict_of}
+use Rattle.file_format.specs.Refusals.{first, asks_connected}
 use Rattle.file_format.specs.Role.{max_nodes, max_links}
 use Rattle.file_pair.specs.declared.Pair.{Pair}
 use Rattle.file_pair.specs.Pair.{pair_conditions}
@@ -33,6 +34,6 @@ pub record BothPrepared (r : Role) (ways : List Direction) (pattern board : Circ
   pub prepared : PreparedBy ways (circuit_of pattern) (circuit_of board) t
 
 -- the two files were read: the verdict is that of the first condition on them that holds
-pub record PairPrepared (r : Role) (ways : List Direction) (pattern board : CircuitFile) (read : Pair) (part_labels nodeLabels : List ℕ) (t : Tables) : Type 0 where
-  pub verdict : verdict_of read.verdict ≡ first (pair_conditions r pattern board)
-  pub both : first (pair_conditions r pattern board) ≡ accept → BothPrepared r ways pattern board read part_labels nodeLabels t
+pub record PairPrepared (r : Role) (ways : List Direction) (pattern board : CircuitFile) (read : Result Pair Refusal) (part_labels nodeLabels : List ℕ) (t : Tables) : Type 0 where
+  pub verdict : verdict_of read ≡ first (pair_conditions r pattern board)
+  pub both : (pair : Pair) → read ≡ Ok pair → BothPrepared r ways pattern board pair part_labels nodeLabels t

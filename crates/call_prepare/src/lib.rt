@@ -8,7 +8,7 @@ ghost use Rattle.table.specs.Prepared.{tables};
 ghost use Rattle.table.specs.Row.{ways_of};
 ghost use Rattle.call_prepare.specs.Read.{AsPattern, PairPrepared};
 
-use file_format::{Board, Editions, FileVerdict, Pattern, Role};
+use file_format::{Board, Editions, Pattern, Refusal, Role};
 use file_pair::{Pair, read_pair};
 use table::Ways;
 use table_prepare::lookups::prepare_along;
@@ -32,7 +32,7 @@ pub fn read_prepared(
     masks: &mut [u32],
     offsets: &mut [u16],
     targets: &mut [u16],
-) -> Pair
+) -> Result<Pair, Refusal>
     requires as_pattern { AsPattern reading.role }
     requires pk_len { (length pk.old ≡ 32) × (length nk.old ≡ 512) }
     requires masks_len { (length masks.old ≡ 64) × NetRoom offsets.old targets.old }
@@ -49,11 +49,7 @@ pub fn read_prepared(
     let mut ne = [0u16; Board::MAX_LINKS];
     let read = read_pair(
         role, editions, pattern, board, pk, &mut ps, &mut pe, nk, &mut ns, &mut ne,
-    );
-    let verdict = read.verdict;
-    let FileVerdict::Accepted = verdict else {
-        return read;
-    };
+    )?;
     let joins = read.joins;
     let m = read.links;
     let ways = reading.ways;
@@ -68,5 +64,5 @@ pub fn read_prepared(
         offsets,
         targets,
     );
-    read
+    Ok(read)
 }

@@ -7,9 +7,9 @@ ghost use Rattle.report_answer.specs.Call.{report_reply, reporting};
 
 use call_open::open;
 use call_piece::put;
-use file_format::{Board, Editions};
+use file_format::{Board, Editions, Refusal};
 use graph_neighbours::tables::{OFFSETS, TARGETS};
-use report_answer::ReportAnswer;
+use report_pieces::PutPiece;
 use table::MASKS;
 
 // A piece of the report, from the centre `from` on, before which `found` centres had a place, at the front of the
@@ -23,7 +23,7 @@ pub fn report(
     from: usize,
     found: u16,
     out: &mut [u8],
-) -> ReportAnswer
+) -> Result<PutPiece, Refusal>
     ensures { record { reply = report_reply result; out = out.new }
         ≡ reporting (in_edition editions.pattern pattern.now)
         (in_edition editions.board board.now)

@@ -1,5 +1,5 @@
 -- The tables that opening fills hold a fresh machine. Assumes nothing.
-use Rattle.std.specs.Prelude.{◌≡◌, ◌++◌, ◌<◌, ◌+◌, ◌-◌}
+use Rattle.std.specs.Prelude.{◌≡◌, ◌++◌, ◌<◌, ◌+◌, ◌-◌, Ok, Err}
 use Rattle.base_lists.specs.Kit.{◌∙◌, sym, ap, refl, Bool, false, true, cond, List, ℕ, ltb, length, get_or, take, drop, replicate, get_or-eq_default, length-replicate, get_or-replicate, get_or-append, take_at, get_or-drop, get_or-append-add, arith, ltb-false, ltb-true}
 use Rattle.base_lists.specs.List.{Below}
 use Rattle.base_lists.proofs.Tables.{length-tabulate}
@@ -11,6 +11,7 @@ use Rattle.file_format.specs.Circuit.{Bounded}
 use Rattle.file_format.specs.Layout.{CircuitFile}
 use Rattle.file_format.specs.Reading.{prefix}
 use Rattle.file_format.specs.Refusals.{refuse, first}
+use Rattle.file_format.specs.Reply.{verdict_of}
 use Rattle.file_format.specs.declared.Refusal.{Refusal}
 use Rattle.file_format.specs.declared.Role.TheVariants as role
 use Rattle.file_format.proofs.Accepted.{bounded-starts, bounded-ends}
@@ -23,8 +24,7 @@ use Rattle.session.specs.Machine.{Machine, fresh, board_left}
 use Rattle.session.specs.State.{State, state, Linked, Holds, end_left}
 use Rattle.session.proofs.Left.{fresh-inside, fresh-left}
 use Rattle.session_open.specs.Open.{padded, LinksNumbered, Ended, Fixed}
-use Rattle.call_session.specs.declared.OpenAnswer.TheVariants as answer
-use Rattle.call_session.specs.Call.{open_verdict, open_state, OpenPromise}
+use Rattle.call_session.specs.Call.{open_state, OpenPromise}
 
 -- ---- the links of a fresh machine
 
@@ -117,15 +117,15 @@ pattern-below {c} b = (
 -- ---- the two answers
 
 module _ {pattern board : CircuitFile} {before : State} where
-  pub open-refused : {x : Refusal} → first (pair_conditions role.AnyPattern pattern board) ≡ refuse x → OpenPromise pattern board before (open_verdict (answer.Refused x)) before
-  unfolding open_verdict
+  pub open-refused : {x : Refusal} → first (pair_conditions role.AnyPattern pattern board) ≡ refuse x → OpenPromise pattern board before (verdict_of {A = Unit {0}} (Err x)) before
+  unfolding verdict_of
   open-refused {x} e = record { replied = sym e; opened = λ q. absurd (accept-not-refuse (sym q)); content = λ q. absurd (accept-not-refuse (sym q)); refused = λ y q. refl }
 
   pub open-held :
       {read : Pair} {parts nodes : Circuit} → BothRead role.AnyPattern pattern board read parts nodes → {after : State} →
       Holds (fresh (prefix read.parts read.joins parts) (prefix read.nodes read.links nodes)) after →
-      after ≡ open_state (prefix read.parts read.joins parts) (prefix read.nodes read.links nodes) before → OpenPromise pattern board before (open_verdict answer.Open) after
-  unfolding open_verdict
+      after ≡ open_state (prefix read.parts read.joins parts) (prefix read.nodes read.links nodes) before → OpenPromise pattern board before (verdict_of {A = Unit {0}} (Ok tt)) after
+  unfolding verdict_of
   open-held both h e =
       record {
         replied = sym both.verdict;

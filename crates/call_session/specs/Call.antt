@@ -16,17 +16,10 @@ use Rattle.table.specs.Row.{last_table}
 use Rattle.session_open.specs.Open.{halves_filled, padded}
 use Rattle.session.specs.Machine.{fresh}
 use Rattle.session.specs.State.{State, Holds}
-use Rattle.call_session.specs.declared.OpenAnswer.{OpenAnswer}
-use Rattle.call_session.specs.declared.OpenAnswer.TheVariants.{Open, Refused}
 
 -- "opening refuses as Ask 7's call does but for 8, the table being the session's own"
 abbrev pub open_conditions : CircuitFile → CircuitFile → List Condition
 open_conditions pattern board = pair_conditions AnyPattern pattern board
-
--- each case of the answer: 'open' is acceptance
-unfoldable pub open_verdict : OpenAnswer → Verdict
-open_verdict Open = accept
-open_verdict (Refused x) = refuse x
 
 -- the tables as opening fills them; entries past those needed stay
 unfoldable pub open_state : Circuit → Circuit → State → State

@@ -2,24 +2,18 @@
 #![tactic(auto)]
 
 ghost use Rattle.file_format.specs.Layout.{in_edition};
+ghost use Rattle.file_format.specs.Reply.{verdict_of};
 ghost use Rattle.session.specs.State.{state, StateRoom};
-ghost use Rattle.call_session.specs.Call.{open_verdict, OpenPromise};
+ghost use Rattle.call_session.specs.Call.{OpenPromise};
 
-use file_format::{Board, Editions, FileVerdict, Pattern, Refusal, Role};
+use file_format::{Board, Editions, Pattern, Refusal, Role};
 use file_pair::read_pair;
 use session_open::{store_fixed, store_links};
 use table::Ways;
 use table_whole::match_circuits;
 
-// What opening comes to: the tables hold a session, or why it was turned away.
-#[derive(Clone, Copy)]
-pub enum OpenAnswer {
-    Open,
-    Refused(Refusal),
-}
-
 // Opens a session: reads both files, and fills the tables with the pattern's masks, the board's links and the largest
-// dual simulation.
+// dual simulation; or the refusal, which leaves them as they were.
 pub fn open(
     editions: Editions,
     pattern: &[u8],
@@ -29,12 +23,12 @@ pub fn open(
     numbers: &mut [u16],
     ends: &mut [u16],
     sets: &mut [u32],
-) -> OpenAnswer
+) -> Result<(), Refusal>
     requires { StateRoom (state fixed.old offsets.old numbers.old ends.old sets.old) }
     ensures { OpenPromise (in_edition editions.pattern pattern.now)
         (in_edition editions.board board.now)
         (state fixed.old offsets.old numbers.old ends.old
-        sets.old) (open_verdict result)
+        sets.old) (verdict_of result)
         (state fixed.new offsets.new numbers.new ends.new
         sets.new) }
 {
@@ -55,11 +49,7 @@ pub fn open(
         &mut nk,
         &mut ns,
         &mut ne,
-    );
-    let verdict = read.verdict;
-    if let FileVerdict::Refused(x) = verdict {
-        return OpenAnswer::Refused(x);
-    }
+    )?;
     let parts = read.parts;
     let joins = read.joins;
     let n = read.nodes;
@@ -76,5 +66,5 @@ pub fn open(
         &ne[..m],
         &mut sets[..n],
     );
-    OpenAnswer::Open
+    Ok(())
 }

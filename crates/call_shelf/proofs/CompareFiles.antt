@@ -12,7 +12,7 @@ use Rattle.file_format.proofs.Refusals.{accepted}
 use Rattle.file_write.specs.Bytes.{bytes_of, stretch_bytes, file_bytes}
 use Rattle.file_write.proofs.FileFields.{all-fields}
 use Rattle.file_write.proofs.RoundTrip.{same-file}
-use Rattle.order.specs.declared.Order.TheVariants.{Equal}
+use Rattle.std.specs.declared.cmp.Ordering.TheVariants.{Equal}
 use Rattle.order.specs.Order.{Whole, Parallel, numbers_of, compare_lists, compare_whole}
 use Rattle.order.proofs.Laws.{lists-order, whole-order, numbers-order}
 use Rattle.order.specs.Files.{second_edition, whole_of, compare_files, numbers_in}

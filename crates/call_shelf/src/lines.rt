@@ -20,10 +20,8 @@ pub fn put_numbers(numbers: &[u8], out: &mut [u8]) -> usize
     ensures { Put out.old 0 (shelf_text numbers.now) out.new result }
 {
     let mut end = 0;
-    let mut i = 0;
-    while i < numbers.len() {
-        end = put_line(numbers[i], out, end);
-        i += 1;
+    for &number in numbers {
+        end = put_line(number, out, end);
     }
     end
 }

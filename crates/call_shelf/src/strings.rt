@@ -22,10 +22,8 @@ pub fn string_at<'a>(bytes: &'a [u8], lengths: &[u32], i: usize) -> &'a [u8]
         return &bytes[0..0];
     }
     let mut at = 0;
-    let mut j = 0;
-    while j < i {
-        at = step(at, lengths[j], bytes.len());
-        j += 1;
+    for &size in &lengths[..i] {
+        at = step(at, size, bytes.len());
     }
     let end = step(at, lengths[i], bytes.len());
     &bytes[at..end]

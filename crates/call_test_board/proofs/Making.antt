@@ -1,4 +1,5 @@
 -- The test board's circuit as the passes leave it, its file, and what the call comes to by cases. Assumes nothing.
+use Rattle.std.specs.Prelude.{Ok, Err}
 use Rattle.base_lists.specs.Kit.{◌≡◌, ◌∙◌, sym, ap, refl, ap₂, false, true, ◌&&◌, List, [], ◌++◌, ℕ, ◌≤◌, ◌<◌, ◌+◌, ◌*◌, le_trans, T, eqb, leb, le→leb, length, get_or, take, get_or-append, take_at, arith, le-ltb, lt-ltb}
 use Rattle.base_lists.proofs.Tests.{T_true, both_true}
 use Rattle.base_lists.proofs.Below.{any_below-same}
@@ -7,16 +8,14 @@ use Rattle.graph.specs.Pairs.{pair_starts, pair_ends}
 use Rattle.graph.proofs.Pairs.{pairs-same}
 use Rattle.file_format.specs.declared.Edition.TheVariants.{First}
 use Rattle.file_format.specs.declared.File.TheVariants.{Neither}
-use Rattle.file_format.specs.declared.Refusal.{Refusal}
 use Rattle.file_format.specs.declared.Role.TheVariants.{Board}
 use Rattle.file_format.specs.Layout.{length_of}
 use Rattle.file_format.specs.Links.{links_below, rising}
 use Rattle.file_format.specs.Reading.{filled}
 use Rattle.file_format.specs.Refusals.{accept, first, link_conditions, asks_connected, short_table, number_outside}
-use Rattle.file_format.specs.Reply.{reply}
+use Rattle.file_format.specs.Reply.{reply, number_reply}
 use Rattle.file_format.specs.Role.{in_range}
-use Rattle.file_write.specs.declared.WriteAnswer.TheVariants as write
-use Rattle.file_write.specs.Writing.{circuit_conditions, WriteOutcome, writing, write_reply}
+use Rattle.file_write.specs.Writing.{circuit_conditions, writing}
 use Rattle.file_write.proofs.FileFields.{length-written}
 use Rattle.file_write.proofs.Writing.{verdict-links, writing-filled}
 use Rattle.test_board.specs.Generator.{stepped}
@@ -25,9 +24,7 @@ use Rattle.test_board.specs.Board.{InRange, kinds_drawn, pairs_drawn, is_pair, t
 use Rattle.test_board.proofs.Generator.{length-draws, draws-lt}
 use Rattle.test_board.proofs.Board.{test_board-nodes, test_board-parallel, test_board-links, board-below, board-rises}
 use Rattle.test_board_links.specs.Marks.{AllBelow}
-use Rattle.call_test_board.specs.declared.TestBoardAnswer.{TestBoardAnswer}
-use Rattle.call_test_board.specs.declared.TestBoardAnswer.TheVariants.{Refused}
-use Rattle.call_test_board.specs.Call.{test_board_bytes, test_board_conditions, test_board_reply, making_test_board, MadeFrom}
+use Rattle.call_test_board.specs.Call.{test_board_bytes, test_board_conditions, making_test_board, MadeFrom}
 
 -- ---- the test board is a board
 
@@ -96,8 +93,8 @@ module _ (seed n m k : ℕ) (r : InRange n m k) where
       (kinds starts ends out : List ℕ) → (kinds ≡ made.labels) × (starts ≡ made.starts) × (ends ≡ made.ends) → length_of First n m ≤ length out →
       writing Board First kinds [] starts ends out
       ≡ record {
-        answer = write.Written (length (test_board_bytes seed n m k));
-        reply = write_reply (write.Written (length (test_board_bytes seed n m k)));
+        answer = Ok (length (test_board_bytes seed n m k));
+        reply = number_reply (Ok (length (test_board_bytes seed n m k)));
         out = filled accept (test_board_bytes seed n m k) out;
       }
   unfolding test_board_bytes
@@ -106,35 +103,21 @@ module _ (seed n m k : ℕ) (r : InRange n m k) where
       (writing-filled Board First made.labels [] made.starts made.ends out board-sound (le_trans board-length-le room)
       ∙ rw (sym (length-written First made.labels [] made.starts made.ends refl (test_board-parallel seed n m k))))
 
--- what the answer of writing says then: the length is that of the test board's file, and it is no refusal
-module _ (bytes : List ℕ) (o : WriteOutcome) (out : List ℕ)
-    (e : o ≡ record { answer = write.Written (length bytes); reply = write_reply (write.Written (length bytes)); out = filled accept bytes out }) where
-  pub written-size : (size : ℕ) → o.answer ≡ write.Written size → size ≡ length bytes
-  written-size size a =
-      let d : write.Written size ≡ write.Written (length bytes) = sym a ∙ ap (λ (x : WriteOutcome). x.answer) e in
-      cc
-
-  pub written-not-refused : (x : Refusal) → o.answer ≡ write.Refused x → ⊥
-  written-not-refused x a =
-      let d : write.Refused x ≡ write.Written (length bytes) = sym a ∙ ap (λ (x : WriteOutcome). x.answer) e in
-      let z : ◌≡◌ {A = ℕ} 0 1 = cc in
-      omega arith
-
 -- ---- the call, by cases
 
 module _ (seed n m k : ℕ) (out : List ℕ) where
   pub loading-outside : test_board.sizes_in_range n m k ≡ false
-      → record { reply = test_board_reply (Refused (record { number = 10; file = Neither })); out = out } ≡ making_test_board seed n m k out
-  unfolding making_test_board test_board_conditions first number_outside test_board_reply reply filled
+      → record { reply = number_reply (Err (record { number = 10; file = Neither })); out = out } ≡ making_test_board seed n m k out
+  unfolding making_test_board test_board_conditions first number_outside number_reply reply filled
   loading-outside e = simp e
 
   module _ (e : test_board.sizes_in_range n m k ≡ true) where
     pub loading-short : length out < length_of First n m
-        → record { reply = test_board_reply (Refused (record { number = 8; file = Neither })); out = out } ≡ making_test_board seed n m k out
-    unfolding making_test_board test_board_conditions first number_outside short_table test_board_reply reply filled
+        → record { reply = number_reply (Err (record { number = 8; file = Neither })); out = out } ≡ making_test_board seed n m k out
+    unfolding making_test_board test_board_conditions first number_outside short_table number_reply reply filled
     loading-short h = simp (e, lt-ltb _ _ h)
 
-    pub loading-made : (answer : TestBoardAnswer) (after : List ℕ) → length_of First n m ≤ length out → MadeFrom seed n m k answer out after
-        → record { reply = test_board_reply answer; out = after } ≡ making_test_board seed n m k out
-    unfolding making_test_board test_board_conditions first number_outside short_table test_board_reply reply
-    loading-made answer after h made = rw (made.answered, made.written) (simp (e, le-ltb _ _ h))
+    pub loading-made : (size : ℕ) (after : List ℕ) → length_of First n m ≤ length out → MadeFrom seed n m k size out after
+        → record { reply = number_reply (Ok size); out = after } ≡ making_test_board seed n m k out
+    unfolding making_test_board test_board_conditions first number_outside short_table number_reply reply
+    loading-made size after h made = rw (made.sized, made.written) (simp (e, le-ltb _ _ h))

@@ -1,27 +1,25 @@
 -- What the promise of the call for a test board means, of its own reply and bytes. Assumes nothing.
+use Rattle.std.specs.Prelude.{Ok}
 use Rattle.base_lists.specs.Kit.{◌≡◌, ◌∙◌, sym, ap, refl, ◌↔◌, List, [], ◌∷◌, ◌++◌, ℕ, ◌≤◌, ◌<◌, length, take, drop, take_at, drop_at, arith, not-false, ltb-false}
 use Rattle.base_lists.proofs.Tests.{true-T, T_true, T_false}
 use Rattle.graph.specs.Circuit.{Circuit, HasLink}
 use Rattle.file_format.specs.declared.Edition.TheVariants.{First}
 use Rattle.file_format.specs.declared.File.TheVariants.{Neither}
-use Rattle.file_format.specs.declared.ReadAnswer.TheVariants as read
 use Rattle.file_format.specs.declared.Role.TheVariants.{Board}
 use Rattle.file_format.specs.Circuit.{circuit_of}
 use Rattle.file_format.specs.Layout.{first_edition, nodes_of, length_of, starts_of, ends_of, labels_of}
 use Rattle.file_format.specs.Reading.{reading, filled}
 use Rattle.file_format.specs.Refusals.{Verdict, accept, refuse, first, file_conditions, short_table, number_outside}
-use Rattle.file_format.specs.Reply.{Reply, read_reply, reply}
+use Rattle.file_format.specs.Reply.{Reply, reply, read_reply, number_reply}
 use Rattle.file_format.proofs.Labels.{labels-kinds}
 use Rattle.file_format.proofs.Refusals.{first_holds}
-use Rattle.file_write.specs.declared.WriteAnswer.TheVariants as write
 use Rattle.file_write.specs.Writing.{WriteOutcome}
 use Rattle.file_write.proofs.FileFields.{nodes-written, kinds-written, packages-written, starts-written, ends-written}
 use Rattle.file_write.proofs.RoundTrip.{same-verdict, written-file, written-reads}
 use Rattle.file_write.proofs.Writing.{sound}
 use Rattle.test_board.specs.Board.{sizes_in_range, InRange, test_board, PairDrawn}
 use Rattle.test_board.proofs.Board.{in-range, range-in, test_board-nodes, test_board-parallel, test_board-link}
-use Rattle.call_test_board.specs.declared.TestBoardAnswer.TheVariants.{Made}
-use Rattle.call_test_board.specs.Call.{test_board_bytes, test_board_conditions, test_board_reply, TestBoardOutcome, making_test_board}
+use Rattle.call_test_board.specs.Call.{test_board_bytes, test_board_conditions, TestBoardOutcome, making_test_board}
 use Rattle.call_test_board.proofs.Making.{board-sound, written, loading-outside, loading-short, loading-made}
 
 -- the verdict and the value of a reply
@@ -42,14 +40,14 @@ module _ (seed n m k : ℕ) (out : List ℕ) where
   pub board-outside :
       (InRange n m k → ⊥) →
       making_test_board seed n m k out ≡ record { reply = record { verdict = refuse (record { number = 10; file = Neither }); values = [] }; out = out }
-  unfolding test_board_reply
+  unfolding number_reply
   board-outside h = sym (loading-outside seed n m k out (T_false (λ t. h (in-range n m k t))))
 
   -- "An output under 4 + 2N + 4M bytes, M as given, is 8."
   pub board-short :
       InRange n m k → length out < length_of First n m →
       making_test_board seed n m k out ≡ record { reply = record { verdict = refuse (record { number = 8; file = Neither }); values = [] }; out = out }
-  unfolding test_board_reply
+  unfolding number_reply
   board-short r h = sym (loading-short seed n m k out (T_true (range-in n m k r)) h)
 
   -- "The reply is the file's length, and bytes past it stay." Nothing else is refused.
@@ -60,11 +58,11 @@ module _ (seed n m k : ℕ) (out : List ℕ) where
         reply = record { verdict = accept; values = length (test_board_bytes seed n m k) ∷ [] };
         out = test_board_bytes seed n m k ++ drop (length (test_board_bytes seed n m k)) out;
       }
-  unfolding test_board_reply filled
+  unfolding number_reply filled
   board-made r h =
       sym
-      (loading-made seed n m k out (T_true (range-in n m k r)) (Made (length (test_board_bytes seed n m k))) (filled accept (test_board_bytes seed n m k) out) h
-      (record { answered = refl; written = refl }))
+      (loading-made seed n m k out (T_true (range-in n m k r)) (length (test_board_bytes seed n m k)) (filled accept (test_board_bytes seed n m k) out) h
+      (record { sized = refl; written = refl }))
 
   -- a call that replies with a length was given numbers in their ranges and enough bytes
   pub board-replied :
@@ -131,8 +129,8 @@ module _ (seed n m k : ℕ) (out : List ℕ) (size : ℕ) (e : (making_test_boar
       (ks ps ss es : List ℕ) → n ≤ length ks → length (test_board seed n m k).starts ≤ length ss → length (test_board seed n m k).ends ≤ length es →
       reading Board (first_edition (take size (making_test_board seed n m k out).out)) ks ps ss es
       ≡ record {
-        answer = read.Read n (length (test_board seed n m k).starts);
-        reply = read_reply (read.Read n (length (test_board seed n m k).starts));
+        answer = Ok (record { nodes = n; links = length (test_board seed n m k).starts });
+        reply = read_reply (Ok (record { nodes = n; links = length (test_board seed n m k).starts }));
         kinds = (test_board seed n m k).labels ++ drop n ks;
         packages = ps;
         starts = (test_board seed n m k).starts ++ drop (length (test_board seed n m k).starts) ss;
@@ -145,7 +143,7 @@ module _ (seed n m k : ℕ) (out : List ℕ) (size : ℕ) (e : (making_test_boar
       let nodes = test_board-nodes seed n m k in
       let wrote =
       ap (λ (o : WriteOutcome). o.answer) (written seed n m k r made.labels made.starts made.ends out (refl, refl, refl) room)
-      ∙ ap write.Written (sym is) in
+      ∙ ap Ok (sym is) in
       ap (λ (file : List ℕ). reading Board (first_edition file) ks ps ss es) (prefix-file ∙ sym (written-file Board First made.labels [] made.starts made.ends out size wrote))
       ∙ written-reads Board First made.labels [] made.starts made.ends out size wrote ks ps ss es (omega arith) (omega arith) b d
       ∙ rw nodes

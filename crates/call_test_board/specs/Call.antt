@@ -4,12 +4,10 @@ use Rattle.base_lists.specs.Kit.{List, [], ℕ, length}
 use Rattle.file_format.specs.declared.Edition.TheVariants.{First}
 use Rattle.file_format.specs.Layout.{length_of}
 use Rattle.file_format.specs.Reading.{filled}
-use Rattle.file_format.specs.Refusals.{Condition, accept, refuse, first, short_table, number_outside}
+use Rattle.file_format.specs.Refusals.{Condition, accept, first, short_table, number_outside}
 use Rattle.file_format.specs.Reply.{Reply, reply}
 use Rattle.file_write.specs.Bytes.{file_bytes}
 use Rattle.test_board.specs.Board.{sizes_in_range, test_board}
-use Rattle.call_test_board.specs.declared.TestBoardAnswer.{TestBoardAnswer}
-use Rattle.call_test_board.specs.declared.TestBoardAnswer.TheVariants.{Made, Refused}
 
 -- the file of a test board, of the first edition
 unfoldable pub test_board_bytes : ℕ → ℕ → ℕ → ℕ → List ℕ
@@ -21,12 +19,7 @@ test_board_bytes seed n m k =
 unfoldable pub test_board_conditions : ℕ → ℕ → ℕ → ℕ → List Condition
 test_board_conditions n m k lent = number_outside (sizes_in_range n m k) ∷ short_table (length_of First n m) lent ∷ []
 
--- number and values of each case of the answer
-unfoldable pub test_board_reply : TestBoardAnswer → Reply
-test_board_reply (Made size) = record { verdict = accept; values = size ∷ [] }
-test_board_reply (Refused x) = record { verdict = refuse x; values = [] }
-
--- the reply, and the bytes lent as the call leaves them
+-- the reply (Reply `number_reply`), and the bytes lent as the call leaves them
 pub record TestBoardOutcome : Type 0 where
   pub reply : Reply
   pub out : List ℕ
@@ -37,7 +30,7 @@ making_test_board seed n m k out =
     let verdict = first (test_board_conditions n m k (length out)) in
     record { reply = reply verdict (length (test_board_bytes seed n m k) ∷ []); out = filled verdict (test_board_bytes seed n m k) out }
 
--- what making a test board leaves: the answer, and the bytes of its file at the front of those lent
-pub record MadeFrom (seed n m k : ℕ) (answer : TestBoardAnswer) (before after : List ℕ) : Type 0 where
-  pub answered : answer ≡ Made (length (test_board_bytes seed n m k))
+-- what making a test board leaves: the file's length, and the bytes of its file at the front of those lent
+pub record MadeFrom (seed n m k : ℕ) (size : ℕ) (before after : List ℕ) : Type 0 where
+  pub sized : size ≡ length (test_board_bytes seed n m k)
   pub written : after ≡ filled accept (test_board_bytes seed n m k) before

@@ -2,35 +2,26 @@
 #![tactic(auto)]
 
 ghost use Rattle.std.specs.Prelude.{◌≡◌};
-ghost use Rattle.call_test_board.specs.Call.{test_board_reply, making_test_board};
+ghost use Rattle.file_format.specs.Reply.{number_reply};
+ghost use Rattle.call_test_board.specs.Call.{making_test_board};
 
 use crate::make::make;
-use file_format::{File, Refusal};
+use file_format::{File, Refusal, TOO_SHORT};
 use test_board::in_range;
 
 mod make;
 
-// What making a test board comes to: the file's length, or why it was turned away.
-#[derive(Clone, Copy)]
-pub enum TestBoardAnswer {
-    Made(usize),
-    Refused(Refusal),
-}
-
-fn refused(number: u8) -> TestBoardAnswer
-    ensures { result ≡ TestBoardAnswer.Refused (record { number = number; file = File.Neither }) }
-{
-    TestBoardAnswer::Refused(Refusal {
-        number,
-        file: File::Neither,
-    })
-}
+// One of the four numbers is out of its range.
+const OUT_OF_RANGE: Refusal = Refusal {
+    number: 10,
+    file: File::Neither,
+};
 
 // Makes the board of n nodes with kinds below k, and of m links drawn, those drawn twice being one, that a seed gives.
 // Its file stands at the front of the bytes lent, and the answer is its length; or the refusal, which leaves every byte
 // as it was.
-pub fn test_board(seed: u32, n: u32, m: u32, k: u32, out: &mut [u8]) -> TestBoardAnswer
-    ensures { record { reply = test_board_reply result; out = out.new }
+pub fn test_board(seed: u32, n: u32, m: u32, k: u32, out: &mut [u8]) -> Result<usize, Refusal>
+    ensures { record { reply = number_reply result; out = out.new }
         ≡ making_test_board seed n m k out.old }
 {
     let fits = in_range(n, m, k);
@@ -38,10 +29,10 @@ pub fn test_board(seed: u32, n: u32, m: u32, k: u32, out: &mut [u8]) -> TestBoar
     let links = m as usize;
     let is_short = out.len() < 4 + 2 * nodes + 4 * links;
     if !fits {
-        return refused(10);
+        return Err(OUT_OF_RANGE);
     }
     if is_short {
-        return refused(8);
+        return Err(TOO_SHORT);
     }
-    make(seed, nodes, links, k as usize, out)
+    Ok(make(seed, nodes, links, k as usize, out))
 }

@@ -5,15 +5,13 @@ ghost use Rattle.file_format.specs.Layout.{length_of};
 ghost use Rattle.test_board.specs.Board.{InRange};
 ghost use Rattle.call_test_board.specs.Call.{MadeFrom};
 
-use crate::TestBoardAnswer;
 use file_format::{Board, Role};
-use file_write::WriteAnswer;
 use test_board::draw_test_board;
 use test_board_links::collect_links;
 
 // Draws a test board and writes its file to the front of bytes that have room for the file of as many links as are
-// drawn. A test board is a board, so that writing it is not refused.
-pub fn make(seed: u32, n: usize, m: usize, k: usize, out: &mut [u8]) -> TestBoardAnswer
+// drawn: the file's length. A test board is a board, so that writing it is not refused.
+pub fn make(seed: u32, n: usize, m: usize, k: usize, out: &mut [u8]) -> usize
     requires { InRange n m k × (length_of editions.First n m ≤ length out.old) }
     ensures { MadeFrom seed n m k result out.old out.new }
 {
@@ -29,8 +27,5 @@ pub fn make(seed: u32, n: usize, m: usize, k: usize, out: &mut [u8]) -> TestBoar
         &ends[..links],
         out,
     );
-    match written {
-        WriteAnswer::Written(size) => TestBoardAnswer::Made(size),
-        WriteAnswer::Refused(x) => TestBoardAnswer::Refused(x),
-    }
+    written.unwrap()
 }

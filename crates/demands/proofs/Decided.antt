@@ -38,7 +38,7 @@ use Rattle.call_place.proofs.Promise.{input-refused, verdict-is, accept-or-nine,
 use Rattle.call_check.specs.Call.{check_call}
 use Rattle.call_barring.proofs.Promise as bar-call
 use Rattle.call_merge.specs.Call.{merging}
-use Rattle.order.specs.declared.Order.{Order}
+use Rattle.std.specs.declared.cmp.Ordering.{Ordering}
 use Rattle.order.specs.Files.{second_edition, compare_files}
 use Rattle.call_shelf.specs.Compare.{compared_by, comparing, compare_reply}
 use Rattle.call_shelf.specs.Shelf.{shelving_of, shelving}
@@ -91,7 +91,7 @@ verdict-read role file kinds packages starts ends = reply-verdict _ _
 
 -- the comparison: the first file's conditions, then the second's
 compared-by :
-    (cs ds : List Condition) (o : Order) → let result = compare_reply (compared_by (first cs) (first ds) o) in
+    (cs ds : List Condition) (o : Ordering) → let result = compare_reply (compared_by (first cs) (first ds) o) in
     (result.verdict ≡ first (cs ++ ds)) × ((x : Refusal) → first (cs ++ ds) ≡ refuse x → result.order ≡ 0)
 unfolding compared_by compare_reply
 compared-by cs ds o = go (first cs) (first ds) refl refl

@@ -1,5 +1,5 @@
 -- The three demands hold. Assumes nothing.
-use Rattle.std.specs.Prelude.{◌≡◌, ◌↔◌, ◌∷◌, ◌≤◌, ◌<◌}
+use Rattle.std.specs.Prelude.{◌≡◌, ◌↔◌, ◌∷◌, ◌≤◌, ◌<◌, Ok}
 use Rattle.base_lists.specs.Kit.{◌∙◌, sym, ap, refl, subst, ⊎_elim, List, [], ℕ, length, take, take_at, arith}
 use Rattle.base_lists.specs.List.{all, Below}
 use Rattle.base_lists.proofs.Tables.{replicate-tabulate}
@@ -10,7 +10,6 @@ use Rattle.simulation.specs.Closed.{Relation}
 use Rattle.simulation.specs.Perfect.{SameGraph}
 use Rattle.simulation.specs.Simulation.{Direction}
 use Rattle.file_format.specs.declared.Edition.{Edition}
-use Rattle.file_format.specs.declared.ReadAnswer.TheVariants as read
 use Rattle.file_format.specs.declared.Role.{Role}
 use Rattle.file_format.specs.declared.Role.TheVariants.{Pattern, Board, AnyPattern}
 use Rattle.file_format.specs.Circuit.{circuit_of}
@@ -31,7 +30,6 @@ use Rattle.place.specs.Match.{radius_of, ball_of}
 use Rattle.place.proofs.Accepted.{accepted-admissible, accepted-radius}
 use Rattle.place.proofs.Ball.{ball-host}
 use Rattle.place.proofs.Marks.{Marks, nodes-marks, links-marks}
-use Rattle.file_write.specs.declared.WriteAnswer.TheVariants.{Written}
 use Rattle.file_write.specs.Writing.{WriteOutcome, write_conditions, write_answer, writing}
 use Rattle.file_write.proofs.FileFields.{packs-length}
 use Rattle.file_write.proofs.Writing.{sound, writing-accepted}
@@ -93,7 +91,7 @@ whole {board} b = everything-same (circuit_of board) (within-joins (circuit_of b
 -- an accepted writing call has written a file of the length replied
 written :
     (role : Role) (e : Edition) (kinds packages starts ends out : List ℕ) → (writing role e kinds packages starts ends out).reply.verdict ≡ accept →
-    (size : ℕ) × ((writing role e kinds packages starts ends out).answer ≡ Written size) × ((writing role e kinds packages starts ends out).reply.values ≡ size ∷ [])
+    (size : ℕ) × ((writing role e kinds packages starts ends out).answer ≡ Ok size) × ((writing role e kinds packages starts ends out).reply.values ≡ size ∷ [])
 unfolding writing write_answer reply
 written role e kinds packages starts ends out a =
     let v : first (write_conditions role e kinds packages starts ends (length out)) ≡ accept = sym (reply-verdict _ _) ∙ a in
@@ -102,7 +100,7 @@ written role e kinds packages starts ends out a =
 -- an accepted reading call has N and M
 was_read :
     (role : Role) (file : CircuitFile) (ks ps ss es : List ℕ) → (reading role file ks ps ss es).reply.verdict ≡ accept →
-    (reading role file ks ps ss es).answer ≡ read.Read (nodes_of file) (links_of file)
+    (reading role file ks ps ss es).answer ≡ Ok (record { nodes = nodes_of file; links = links_of file })
 unfolding reading read_answer
 was_read role file ks ps ss es e =
     let v : first (read_conditions role file (length ks) (length ps) (length ss) (length es)) ≡ accept = sym (reply-verdict _ _) ∙ e in

@@ -15,14 +15,14 @@ use Rattle.file_format.specs.Layout.{CircuitFile, length_of}
 use Rattle.file_format.specs.Links.{links_below}
 use Rattle.file_format.specs.Reading.{ReadOutcome, read_conditions, reading}
 use Rattle.file_format.specs.Refusals.{Condition, Verdict, accept, refuse, first, too_wide, eleven, without, asks_connected, link_conditions, file_conditions, centre_outside, short_table, Accepted}
-use Rattle.file_format.specs.Reply.{read_reply}
+use Rattle.file_format.specs.Reply.{read_reply, number_reply}
 use Rattle.file_format.specs.Role.{in_range}
 use Rattle.file_format.proofs.Accepted.{links-within}
 use Rattle.file_format.proofs.Limit.{wide-iff, wide-file, narrow-file, accepted-before, unasked-before, without-both}
 use Rattle.file_format.proofs.Reading.{reading-refused}
 use Rattle.file_format.proofs.Refusals.{accept-not-refuse, first-accept, first-refuse, first_holds, range-orders, accepted, accepted-verdict, reply-verdict}
 use Rattle.file_pair.specs.Pair.{pair_conditions}
-use Rattle.file_write.specs.Writing.{WriteOutcome, circuit_conditions, write_conditions, writing, write_reply}
+use Rattle.file_write.specs.Writing.{WriteOutcome, circuit_conditions, write_conditions, writing}
 use Rattle.file_write.proofs.Writing.{writing-refused}
 use Rattle.report.specs.Report.{file_word, refusal_line, report_for, report_of}
 use Rattle.merge.proofs.Accepted.{merged-content, merged-radius-le}
@@ -84,7 +84,7 @@ module _ (e : Edition) (kinds packages starts ends : List ℕ) where
   wide-written : (out : List ℕ) →
       ((writing Pattern e kinds packages starts ends out).reply.verdict ≡ refuse eleven) ↔
       ((before (circuit_conditions Pattern e kinds packages starts ends) ≡ accept) × ((r : ℕ) × Radius (graph_of (length kinds) starts ends) r × (12 < r)))
-  unfolding writing write_reply
+  unfolding writing number_reply
   wide-written out =
       let iff = wide-iff (circuit_conditions Pattern e kinds packages starts ends) (length kinds) starts ends split-circuit circuit-measured in (
         λ q. iff.0 (by-circuit out (sym (reply-verdict _ _) ∙ q)),

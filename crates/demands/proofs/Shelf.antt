@@ -1,5 +1,5 @@
 -- Ask 10: the order on circuits, the comparison of two files and the shelf. Assumes nothing.
-use Rattle.std.specs.Prelude.{◌≡◌, ◌↔◌, ◌∷◌}
+use Rattle.std.specs.Prelude.{◌≡◌, ◌↔◌, ◌∷◌, Result, Ok, Err}
 use Rattle.base_lists.specs.Kit.{◌∙◌, sym, ap, refl, List, [], ℕ, length, take, drop, take_at, drop_at, arith}
 use Rattle.base_lists.proofs.Entries.{below_all}
 use Rattle.file_format.specs.declared.Refusal.{Refusal}
@@ -8,11 +8,12 @@ use Rattle.file_format.specs.Reading.{filled}
 use Rattle.file_format.specs.Refusals.{Verdict, accept, refuse, Accepted, file_conditions, first, short_table}
 use Rattle.file_format.specs.Reply.{reply}
 use Rattle.file_format.proofs.Refusals.{accepted, accepted-verdict, reply-verdict}
-use Rattle.order.specs.declared.Order.{Order}
-use Rattle.order.specs.declared.Order.TheVariants.{Equal}
+use Rattle.std.specs.declared.cmp.Ordering.{Ordering}
+use Rattle.std.specs.declared.cmp.Ordering.TheVariants.{Equal}
 use Rattle.order.proofs.Laws.{whole-order, total, antisymmetric, transitive}
 use Rattle.order.specs.Files.{second_edition, compare_files}
-use Rattle.call_shelf.specs.declared.compare.CompareAnswer.TheVariants as answer
+use Rattle.call_shelf.specs.declared.compare.FileRefusal.{FileRefusal}
+use Rattle.call_shelf.specs.declared.compare.Which.{Which}
 use Rattle.call_shelf.specs.declared.compare.Which.TheVariants as which
 use Rattle.call_shelf.specs.Compare.{verdict_for, compared_by, comparing}
 use Rattle.call_shelf.proofs.CompareFiles.{equal-files, equal-circuits}
@@ -24,7 +25,7 @@ use Rattle.demands.specs.Shelf.{PatternFile, files_in, Ask10}
 -- ---- the comparison
 
 module _ (a b : List ℕ) where
-  compared : Accepted Pattern (second_edition a) → Accepted Pattern (second_edition b) → comparing a b ≡ answer.Compared (compare_files a b)
+  compared : Accepted Pattern (second_edition a) → Accepted Pattern (second_edition b) → comparing a b ≡ Ok (compare_files a b)
   unfolding comparing compared_by
   compared x y = rw (accepted-verdict x, accepted-verdict y)
 
@@ -32,37 +33,45 @@ module _ (a b : List ℕ) where
   same_bytes x y =
       equal-files Pattern Pattern a b (below_all 256 a x.bytes) (below_all 256 b y.bytes) (accepted-verdict x.drawn) (accepted-verdict y.drawn)
 
-  equal : PatternFile a → PatternFile b → (comparing a b ≡ answer.Compared Equal) ↔ (a ≡ b)
+  equal : PatternFile a → PatternFile b → (comparing a b ≡ Ok Equal) ↔ (a ≡ b)
   equal x y =
       let is = compared x.drawn y.drawn in
       let same = same_bytes x y in
-      (λ e. same.0 (told (sym is ∙ e)), λ e. is ∙ ap answer.Compared (same.1 e))
+      (λ e. same.0 (told (sym is ∙ e)), λ e. is ∙ ap Ok (same.1 e))
     where
-      told : {o p : Order} → answer.Compared o ≡ answer.Compared p → o ≡ p
+      told : {o p : Ordering} → ◌≡◌ {A = Result Ordering FileRefusal} (Ok o) (Ok p) → o ≡ p
       told e = cc
 
   -- by the two files' verdicts
-  first-refused : (v w : Verdict) (o : Order) (x : Refusal) → (compared_by v w o ≡ answer.Refused x which.First) ↔ (v ≡ refuse x)
+  abbrev refused : Refusal → Which → Result Ordering FileRefusal
+  refused x w = Err (record { refusal = x; which = w })
+
+  parts : {y x : Refusal} {v w : Which} → refused y v ≡ refused x w → (y ≡ x) × (v ≡ w)
+  parts {y} {x} {v} {w} e =
+      let same : record { refusal = y; which = v } ≡ record { refusal = x; which = w } = cc in
+      (ap (λ (k : FileRefusal). k.refusal) same, ap (λ (k : FileRefusal). k.which) same)
+
+  first-refused : (v w : Verdict) (o : Ordering) (x : Refusal) → (compared_by v w o ≡ Err (record { refusal = x; which = which.First })) ↔ (v ≡ refuse x)
   unfolding compared_by
   first-refused accept accept o x = (λ e. let z : ◌≡◌ {A = ℕ} 0 1 = cc in absurd (omega arith), λ e. let z : ◌≡◌ {A = ℕ} 0 1 = cc in absurd (omega arith))
-  first-refused accept (refuse y) o x = (λ e. let z : which.Second ≡ which.First = cc in let n : ◌≡◌ {A = ℕ} 0 1 = cc in absurd (omega arith), λ e. let z : ◌≡◌ {A = ℕ} 0 1 = cc in absurd (omega arith))
-  first-refused (refuse y) w o x = (λ e. cc, λ e. cc)
+  first-refused accept (refuse y) o x = (λ e. let z : which.Second ≡ which.First = (parts e).1 in let n : ◌≡◌ {A = ℕ} 0 1 = cc in absurd (omega arith), λ e. let z : ◌≡◌ {A = ℕ} 0 1 = cc in absurd (omega arith))
+  first-refused (refuse y) w o x = (λ e. ap refuse (parts e).0, λ e. let same : y ≡ x = cc in ap (λ (k : Refusal). refused k which.First) same)
 
-  second-refused : (v w : Verdict) (o : Order) (x : Refusal) → (compared_by v w o ≡ answer.Refused x which.Second) ↔ ((v ≡ accept) × (w ≡ refuse x))
+  second-refused : (v w : Verdict) (o : Ordering) (x : Refusal) → (compared_by v w o ≡ Err (record { refusal = x; which = which.Second })) ↔ ((v ≡ accept) × (w ≡ refuse x))
   unfolding compared_by
   second-refused accept accept o x = (λ e. let z : ◌≡◌ {A = ℕ} 0 1 = cc in absurd (omega arith), λ e. let h = e.1 in let z : ◌≡◌ {A = ℕ} 0 1 = cc in absurd (omega arith))
-  second-refused accept (refuse y) o x = (λ e. (refl, cc), λ e. let h = e.1 in cc)
+  second-refused accept (refuse y) o x = (λ e. (refl, ap refuse (parts e).0), λ e. let same : y ≡ x = let h = e.1 in cc in ap (λ (k : Refusal). refused k which.Second) same)
   second-refused (refuse y) w o x = (
-    λ e. let z : which.First ≡ which.Second = cc in let n : ◌≡◌ {A = ℕ} 0 1 = cc in absurd (omega arith),
+    λ e. let z : which.First ≡ which.Second = (parts e).1 in let n : ◌≡◌ {A = ℕ} 0 1 = cc in absurd (omega arith),
     λ e. let h = e.0 in let z : ◌≡◌ {A = ℕ} 0 1 = cc in absurd (omega arith),
   )
 
-  refused-first : (x : Refusal) → (comparing a b ≡ answer.Refused x which.First) ↔ (first (file_conditions Pattern (second_edition a)) ≡ refuse x)
+  refused-first : (x : Refusal) → (comparing a b ≡ Err (record { refusal = x; which = which.First })) ↔ (first (file_conditions Pattern (second_edition a)) ≡ refuse x)
   unfolding comparing
   refused-first x = first-refused (verdict_for a) (verdict_for b) (compare_files a b) x
 
   refused-second : (x : Refusal) →
-      (comparing a b ≡ answer.Refused x which.Second) ↔ (Accepted Pattern (second_edition a) × (first (file_conditions Pattern (second_edition b)) ≡ refuse x))
+      (comparing a b ≡ Err (record { refusal = x; which = which.Second })) ↔ (Accepted Pattern (second_edition a) × (first (file_conditions Pattern (second_edition b)) ≡ refuse x))
   unfolding comparing
   refused-second x =
       let told = second-refused (verdict_for a) (verdict_for b) (compare_files a b) x in

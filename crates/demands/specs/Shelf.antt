@@ -1,7 +1,7 @@
 -- Ask 10, "A shelf in order", quoted over what is proved of it: `Ask10`. proofs/Shelf proves it. The contracts of the
 -- two calls equate their replies, and what they leave, with `comparing` and `shelving` of the inputs alone. (The
 -- program that reads the files: crate shelf.)
-use Rattle.std.specs.Prelude.{◌≡◌, ◌↔◌, ◌⊎◌, ◌∷◌}
+use Rattle.std.specs.Prelude.{◌≡◌, ◌↔◌, ◌⊎◌, ◌∷◌, Ok, Err}
 use Rattle.base_lists.specs.Kit.{List, [], ℕ, T, length, take, drop}
 use Rattle.base_lists.specs.List.{Below}
 use Rattle.file_format.specs.declared.Edition.TheVariants.{Second}
@@ -9,13 +9,12 @@ use Rattle.file_format.specs.declared.Refusal.{Refusal}
 use Rattle.file_format.specs.declared.Role.TheVariants.{Pattern}
 use Rattle.file_format.specs.Refusals.{accept, refuse, first, Accepted, file_conditions}
 use Rattle.file_write.specs.Bytes.{file_bytes}
-use Rattle.order.specs.declared.Order.{Order}
-use Rattle.order.specs.declared.Order.TheVariants.{Less, Equal}
+use Rattle.std.specs.declared.cmp.Ordering.{Ordering}
+use Rattle.std.specs.declared.cmp.Ordering.TheVariants.{Less, Equal}
 use Rattle.order.specs.Order.{Whole, Parallel, compare_whole}
 use Rattle.order.specs.Sorting.{In, Sorted, InOrder}
 use Rattle.order.specs.Files.{second_edition, compare_files}
 use Rattle.call_shelf.specs.Strings.{cut_into}
-use Rattle.call_shelf.specs.declared.compare.CompareAnswer.TheVariants as answer
 use Rattle.call_shelf.specs.declared.compare.Which.TheVariants as which
 use Rattle.call_shelf.specs.Compare.{comparing}
 use Rattle.call_shelf.specs.Shelf.{file_at, accepted_in, shelf_of, most_files, shelving}
@@ -30,7 +29,7 @@ abbrev pub file_for : Whole → List ℕ
 file_for c = file_bytes Second c.kinds c.packages c.starts c.ends
 
 -- how the circuits of two files of a shelf rank, by the files' numbers
-abbrev pub ranked : List (List ℕ) → ℕ → ℕ → Order
+abbrev pub ranked : List (List ℕ) → ℕ → ℕ → Ordering
 ranked files i j = compare_files (file_at files i) (file_at files j)
 
 -- the numbers of a shelf: those of the accepted files and no others, each once, "in order ..; of equal circuits the
@@ -55,12 +54,12 @@ pub record Ask10 : Type 0 where
   pub files : (a b : List ℕ) → PatternFile a → PatternFile b → (compare_files a b ≡ Equal) ↔ (a ≡ b)
   -- ---- the comparison of two files
   -- of two accepted files it tells how their circuits rank, and equal exactly of the same bytes
-  pub compared : (a b : List ℕ) → Accepted Pattern (second_edition a) → Accepted Pattern (second_edition b) → comparing a b ≡ answer.Compared (compare_files a b)
-  pub equal : (a b : List ℕ) → PatternFile a → PatternFile b → (comparing a b ≡ answer.Compared Equal) ↔ (a ≡ b)
+  pub compared : (a b : List ℕ) → Accepted Pattern (second_edition a) → Accepted Pattern (second_edition b) → comparing a b ≡ Ok (compare_files a b)
+  pub equal : (a b : List ℕ) → PatternFile a → PatternFile b → (comparing a b ≡ Ok Equal) ↔ (a ≡ b)
   -- and else the refusal of the first that is refused, and which of the two that is
-  pub refused_first : (a b : List ℕ) (x : Refusal) → (comparing a b ≡ answer.Refused x which.First) ↔ (first (file_conditions Pattern (second_edition a)) ≡ refuse x)
+  pub refused_first : (a b : List ℕ) (x : Refusal) → (comparing a b ≡ Err (record { refusal = x; which = which.First })) ↔ (first (file_conditions Pattern (second_edition a)) ≡ refuse x)
   pub refused_second : (a b : List ℕ) (x : Refusal) →
-      (comparing a b ≡ answer.Refused x which.Second) ↔ (Accepted Pattern (second_edition a) × (first (file_conditions Pattern (second_edition b)) ≡ refuse x))
+      (comparing a b ≡ Err (record { refusal = x; which = which.Second })) ↔ (Accepted Pattern (second_edition a) × (first (file_conditions Pattern (second_edition b)) ≡ refuse x))
   -- ---- the shelf
   -- "accepted ones": read as second-edition patterns without refusal
   pub accepts : (files : List (List ℕ)) (i : ℕ) → T (accepted_in files i) ↔ Accepted Pattern (second_edition (file_at files i))

@@ -1,23 +1,22 @@
 -- The conditions on a file of the third edition, one after another; and what they say of the file of the second edition before the bounds.
 -- Assumes nothing.
-use Rattle.std.specs.Prelude.{◌≡◌, ◌∷◌, ◌++◌, ◌≤◌, ◌+◌, ◌*◌}
+use Rattle.std.specs.Prelude.{◌≡◌, ◌∷◌, ◌++◌, ◌≤◌, ◌+◌, ◌*◌, Result, Ok, Err}
 use Rattle.base_lists.specs.Kit.{◌∙◌, sym, ap, refl, subst, ap₂, Bool, false, true, cond, not, List, [], ℕ, T, eqb, ltb, length, take, drop, length-take-le, get_or-take, arith, eq-eqb, ne_eqb, le-ltb, eqb-true, ltb-false, eqb-false}
 use Rattle.base_lists.proofs.Tests.{true-T, T_true, not-true-false}
 use Rattle.file_format.specs.declared.Edition.TheVariants.{Second}
 use Rattle.graph.specs.Circuit.{Circuit}
 use Rattle.file_format.specs.declared.FileRead.{FileRead}
-use Rattle.file_format.specs.declared.FileVerdict.{FileVerdict}
-use Rattle.file_format.specs.declared.FileVerdict.TheVariants as verdict
 use Rattle.file_format.specs.declared.Refusal.{Refusal}
 use Rattle.file_format.specs.declared.Role.TheVariants.{AnyPattern}
 use Rattle.file_format.specs.Layout.{CircuitFile, in_edition, field, fields, nodes_of, links_of, starts_of, ends_of}
-use Rattle.file_format.specs.Refusals.{Condition, Verdict, accept, refuse, first, link_conditions, file_conditions, size_number, Accepted}
-use Rattle.file_format.specs.Reading.{verdict_of, Loaded}
+use Rattle.file_format.specs.Refusals.{Condition, Verdict, accept, refuse, first, link_conditions, file_conditions, size_number, Accepted, turned, by_number}
+use Rattle.file_format.specs.Reading.{Loaded}
+use Rattle.file_format.specs.Reply.{verdict_of}
 use Rattle.file_format.specs.Role.{in_range, file_of}
 use Rattle.file_format.proofs.Reading.{loaded-accepted, loaded-refused}
-use Rattle.file_format.proofs.Refusals.{turned, turned-accept, verdict-number, verdict-links, verdict-turned, size-0, first-accept, first-refuse, first-parts, first_holds, accepted}
+use Rattle.file_format.proofs.Refusals.{turned-accept, number-none, number-refused, verdict-number, verdict-links, verdict-turned, size-0, first-accept, first-refuse, first-parts, first_holds, accepted}
 use Rattle.file_format.proofs.Fields.{length_fields}
-use Rattle.file_bounds.specs.Third.{bounds_at, bounded_length, before_bounds, bounds_of, bounds_fit, bound_outside, third_conditions, third_size, judged_by, BoundsLoaded}
+use Rattle.file_bounds.specs.Third.{bounds_at, bounded_length, before_bounds, bounds_of, bounds_fit, bound_outside, third_conditions, third_size, BoundsHeld, BoundsLoaded}
 
 module _ (bytes : List ℕ) where
   -- ---- the verdict
@@ -159,19 +158,26 @@ module _ (bytes : List ℕ) where
 
 -- ---- as the reader answers
 
-module _ {bytes : List ℕ} {read : FileRead} {tables : Circuit} {bounds : List ℕ} (l : BoundsLoaded bytes read tables bounds) where
-  pub third-read : read.verdict ≡ verdict.Accepted → first (third_conditions bytes) ≡ accept
+module _ {bytes : List ℕ} {read : Result FileRead Refusal} {tables : Circuit} {bounds : List ℕ} (l : BoundsLoaded bytes read tables bounds) where
+  pub third-read : {size : FileRead} → read ≡ Ok size → first (third_conditions bytes) ≡ accept
   unfolding verdict_of
   third-read e = sym l.verdict ∙ ap verdict_of e
 
-  pub third-refused : {x : Refusal} → read.verdict ≡ verdict.Refused x → first (third_conditions bytes) ≡ refuse x
+  pub third-refused : {x : Refusal} → read ≡ Err x → first (third_conditions bytes) ≡ refuse x
   unfolding verdict_of
   third-refused e = sym l.verdict ∙ ap verdict_of e
 
-pub turned-loaded : (bytes : List ℕ) (read : FileRead) (tables : Circuit) (bounds : List ℕ) (k : ℕ)
-    → read.verdict ≡ verdict.Refused (record { number = k; file = file_of AnyPattern }) → first (third_conditions bytes) ≡ turned AnyPattern k → BoundsLoaded bytes read tables bounds
-unfolding verdict_of turned
-turned-loaded bytes read tables bounds k e v = record { verdict = rw e (sym v); held = λ a. absurd (turned-accept AnyPattern k _ v a) }
+-- the size was tested: it refuses the file, or no number is left
+module _ (bytes : List ℕ) {A : Type 0} {sized : Result A Refusal} (l : verdict_of sized ≡ by_number AnyPattern (third_size bytes)) where
+  pub size-turned : {tables : Circuit} {bounds : List ℕ} {x : Refusal} → sized ≡ Err x → BoundsLoaded bytes (Err x) tables bounds
+  unfolding verdict_of
+  size-turned e =
+      let (some, is) = number-refused AnyPattern (third_size bytes) (sym l ∙ ap verdict_of e) in
+      record { verdict = sym (third-turned bytes some ∙ is); held = λ size q. cc }
+
+  pub size-none : {a : A} → sized ≡ Ok a → third_size bytes ≡ 0
+  unfolding verdict_of
+  size-none e = number-none AnyPattern _ (sym l ∙ ap verdict_of e)
 
 -- the parts of the file, as the reader cuts them
 module _ (bytes : List ℕ) (n m : ℕ) (isN : n ≡ field bytes 0) (isM : m ≡ field bytes 2) where
@@ -187,25 +193,37 @@ module _ (bytes : List ℕ) (n m : ℕ) (isN : n ≡ field bytes 0) (isM : m ≡
   bounds-are = ap₂ (λ (k c : ℕ). fields (drop k bytes) c) at-is isM
 
   -- the front was read, and then the bounds
-  module _ (h : third_size bytes ≡ 0) {read : FileRead} {tables : Circuit}
+  module _ (h : third_size bytes ≡ 0) {read : Result FileRead Refusal} {tables : Circuit}
       (l : Loaded AnyPattern (in_edition Second (take (4 + 4 * n + 4 * m) bytes)) read tables) where
     prefix-loaded : Loaded AnyPattern (before_bounds bytes) read tables
     prefix-loaded = subst (λ (f : CircuitFile). Loaded AnyPattern f read tables) prefix-is l
 
-    module _ {fits : Bool} (f : fits ≡ bounds_fit (fields (drop (4 + 4 * n + 4 * m) bytes) m)) where
-      judged-says : (v : FileVerdict) → read.verdict ≡ v → (b : Bool) → fits ≡ b → verdict_of (judged_by v b) ≡ first (third_conditions bytes)
-      unfolding judged_by verdict_of turned
-      judged-says (verdict.Refused x) e b q = sym (prefix-refused bytes h (loaded-refused prefix-loaded e))
-      judged-says verdict.Accepted e true q = sym (bounds-accepted bytes h (loaded-accepted prefix-loaded e) (ap bounds_fit (sym bounds-are) ∙ sym f ∙ q))
-      judged-says verdict.Accepted e false q = sym (bounds-refused bytes h (loaded-accepted prefix-loaded e) (ap bounds_fit (sym bounds-are) ∙ sym f ∙ q))
+    -- what stands before the bounds is refused
+    pub loaded-before : {x : Refusal} {bounds : List ℕ} → read ≡ Err x → BoundsLoaded bytes (Err x) tables bounds
+    unfolding verdict_of
+    loaded-before e = record { verdict = sym (prefix-refused bytes h (loaded-refused prefix-loaded e)); held = λ size q. cc }
 
-      pub loaded-judged : {v : FileVerdict} → v ≡ judged_by read.verdict fits → {bounds : List ℕ} → take m bounds ≡ fields (drop (4 + 4 * n + 4 * m) bytes) m
-          → BoundsLoaded bytes (record { verdict = v; nodes = read.nodes; links = read.links; radius = read.radius }) tables bounds
-      loaded-judged e {bounds} t =
+    module _ {size : FileRead} (e : read ≡ Ok size) {fits : Bool} (f : fits ≡ bounds_fit (fields (drop (4 + 4 * n + 4 * m) bytes) m)) where
+      accepts : first (file_conditions AnyPattern (before_bounds bytes)) ≡ accept
+      accepts = loaded-accepted prefix-loaded e
+
+      fits-are : {b : Bool} → fits ≡ b → bounds_fit (bounds_of bytes) ≡ b
+      fits-are q = ap bounds_fit (sym bounds-are) ∙ sym f ∙ q
+
+      -- a bound is refused
+      pub loaded-outside : {bounds : List ℕ} → fits ≡ false → BoundsLoaded bytes (Err (record { number = 13; file = file_of AnyPattern })) tables bounds
+      unfolding verdict_of turned
+      loaded-outside q = record { verdict = sym (bounds-refused bytes h accepts (fits-are q)); held = λ other p. cc }
+
+      -- all is accepted
+      pub loaded-bounds : {bounds : List ℕ} → fits ≡ true → take m bounds ≡ fields (drop (4 + 4 * n + 4 * m) bytes) m → BoundsLoaded bytes (Ok size) tables bounds
+      unfolding verdict_of
+      loaded-bounds {bounds} q t =
+          let stands = (prefix-loaded.held size e).stands in
+          let held : BoundsHeld bytes size tables bounds
+          = record { stands = stands; bounded = ap (λ (k : ℕ). take k bounds) (stands.links ∙ links-prefix bytes ∙ sym isM) ∙ t ∙ bounds-are }
+          in
           record {
-            verdict = ap verdict_of e ∙ judged-says read.verdict refl fits refl;
-            held = λ a.
-                let sound = (first-parts (file_conditions AnyPattern (before_bounds bytes)) _ (sym (third-second bytes h) ∙ a)).0 in
-                let stands = (prefix-loaded.held sound).stands in
-                record { stands = stands; bounded = ap (λ (k : ℕ). take k bounds) (stands.links ∙ links-prefix bytes ∙ sym isM) ∙ t ∙ bounds-are };
+            verdict = sym (bounds-accepted bytes h accepts (fits-are q));
+            held = λ other p. let is : size ≡ other = cc in subst (λ (k : FileRead). BoundsHeld bytes k tables bounds) is held;
           }

@@ -1,16 +1,16 @@
 -- The third edition of a pattern file: a file of the second edition, and a bound for each link after it.
-use Rattle.std.specs.Prelude.{◌≡◌, ◌&&◌, ◌∷◌, ◌++◌, ◌+◌, ◌*◌}
-use Rattle.base_lists.specs.Kit.{Bool, false, true, cond, not, List, [], ℕ, eqb, ltb, leb, length, take, drop}
+use Rattle.std.specs.Prelude.{◌≡◌, ◌&&◌, ◌∷◌, ◌++◌, ◌+◌, ◌*◌, Result, Ok}
+use Rattle.base_lists.specs.Kit.{Bool, cond, not, List, [], ℕ, eqb, ltb, leb, length, take, drop}
 use Rattle.base_lists.specs.List.{all}
 use Rattle.graph.specs.Circuit.{Circuit}
 use Rattle.file_format.specs.declared.Edition.TheVariants.{Second}
 use Rattle.file_format.specs.declared.FileRead.{FileRead}
-use Rattle.file_format.specs.declared.FileVerdict.{FileVerdict}
-use Rattle.file_format.specs.declared.FileVerdict.TheVariants.{Accepted, Refused}
+use Rattle.file_format.specs.declared.Refusal.{Refusal}
 use Rattle.file_format.specs.declared.Role.TheVariants.{AnyPattern}
 use Rattle.file_format.specs.Layout.{CircuitFile, in_edition, field, fields, length_of, starts_of, ends_of}
-use Rattle.file_format.specs.Reading.{verdict_of, Stands}
-use Rattle.file_format.specs.Refusals.{Condition, accept, first, link_conditions}
+use Rattle.file_format.specs.Reading.{Stands}
+use Rattle.file_format.specs.Reply.{verdict_of}
+use Rattle.file_format.specs.Refusals.{Condition, first, link_conditions}
 use Rattle.file_format.specs.Role.{in_range, file_of}
 
 -- ---- where the bounds stand
@@ -57,12 +57,6 @@ third_size bytes =
     let m = field bytes 2 in
     cond (ltb (length bytes) 4) 1 (cond (in_range AnyPattern n m) (cond (eqb (length bytes) (bounded_length n m)) 0 3) 2)
 
--- the verdict on a file of a sound size, from that on what stands before the bounds and from whether all bounds fit
-unfoldable pub judged_by : FileVerdict → Bool → FileVerdict
-judged_by (Refused x) fits = Refused x
-judged_by Accepted true = Accepted
-judged_by Accepted false = Refused (record { number = 13; file = file_of AnyPattern })
-
 -- ---- such a file that was read
 
 -- its circuit stands at the front of three tables, and its bounds at the front of a fourth
@@ -70,6 +64,6 @@ pub record BoundsHeld (bytes : List ℕ) (read : FileRead) (tables : Circuit) (b
   pub stands : Stands (before_bounds bytes) read.nodes read.links tables
   pub bounded : take read.links bounds ≡ bounds_of bytes
 
-pub record BoundsLoaded (bytes : List ℕ) (read : FileRead) (tables : Circuit) (bounds : List ℕ) : Type 0 where
-  pub verdict : verdict_of read.verdict ≡ first (third_conditions bytes)
-  pub held : first (third_conditions bytes) ≡ accept → BoundsHeld bytes read tables bounds
+pub record BoundsLoaded (bytes : List ℕ) (read : Result FileRead Refusal) (tables : Circuit) (bounds : List ℕ) : Type 0 where
+  pub verdict : verdict_of read ≡ first (third_conditions bytes)
+  pub held : (size : FileRead) → read ≡ Ok size → BoundsHeld bytes size tables bounds

@@ -5,44 +5,34 @@ ghost use Rattle.std.specs.Prelude.{◌≡◌, ◌+◌, ◌*◌, ◌≤◌, leng
 ghost use Rattle.graph.specs.Circuit.{circuit};
 ghost use Rattle.file_format.specs.Layout.{fields};
 ghost use Rattle.file_format.specs.Reading.{TablesRoom};
-ghost use Rattle.file_format.specs.Role.{file_of};
+ghost use Rattle.file_format.specs.Refusals.{by_number};
+ghost use Rattle.file_format.specs.Reply.{verdict_of};
 ghost use Rattle.file_format.specs.declared.Role.TheVariants as role;
-ghost use Rattle.file_bounds.specs.Third.{bounds_fit, third_size, judged_by, BoundsLoaded};
+ghost use Rattle.file_bounds.specs.Third.{bounds_fit, third_size, BoundsLoaded};
 
 use file_fields::{field_at, store_at};
-use file_format::{Edition, FileRead, FileVerdict, Role};
+use file_format::{Edition, FileRead, Refusal, Role};
 use file_read::load;
-use file_role::{counts_number, length_of, refusal};
+use file_role::{check_counts, length_of, refusal};
 
-// 1, 2 or 3, the first that the file's size gives, or 0.
-fn size_number(file: &[u8]) -> u8
-    ensures { result ≡ third_size file.now }
+// 1, 2 or 3, the first that the file's size gives.
+fn check_size(file: &[u8]) -> Result<(), Refusal>
+    ensures { verdict_of result ≡ by_number role.AnyPattern (third_size file.now) }
 {
     if file.len() < 4 {
-        return 1;
+        return Err(refusal(Role::AnyPattern, 1));
     }
     let n = field_at(file, 0) as usize;
     let m = field_at(file, 1) as usize;
     let asked = length_of(Edition::Second, n, m) + 2 * m;
-    counts_number(Role::AnyPattern, n, m, file.len(), asked)
+    check_counts(Role::AnyPattern, n, m, file.len(), asked)
 }
 
 // Every bound is from 1 to 4.
 fn all_within(bounds: &[u16]) -> bool
     ensures { result ≡ bounds_fit bounds.now }
 {
-    let mut i = 0;
-    while i < bounds.len() {
-        let bound = bounds[i];
-        if bound < 1 {
-            return false;
-        }
-        if 4 < bound {
-            return false;
-        }
-        i += 1;
-    }
-    true
+    bounds.iter().all(|&bound| 1 <= bound && bound <= 4)
 }
 
 // The m bounds that begin at an offset, stored; and whether every one is from 1 to 4.
@@ -55,50 +45,22 @@ fn read_bounds(file: &[u8], at: usize, m: usize, bounds: &mut [u16]) -> bool
     all_within(&bounds[..m])
 }
 
-// The answer that turns a file away.
-fn refused_bounded(number: u8) -> FileRead
-    ensures { result.verdict ≡ FileVerdict.Refused (record { number = number; file = file_of role.AnyPattern }) }
-{
-    FileRead {
-        verdict: FileVerdict::Refused(refusal(Role::AnyPattern, number)),
-        nodes: 0,
-        links: 0,
-        radius: 0,
-    }
-}
-
-// The verdict on a file, from that on what stands before its bounds: 13 where that was accepted and a bound is not from
-// 1 to 4.
-fn judged(before: FileVerdict, fits: bool) -> FileVerdict
-    ensures { result ≡ judged_by before fits }
-{
-    let FileVerdict::Accepted = before else {
-        return before;
-    };
-    if fits {
-        return before;
-    }
-    FileVerdict::Refused(refusal(Role::AnyPattern, 13))
-}
-
-// Reads a pattern file of the third edition, connected or not, into tables that have room for every one: the verdict;
-// and of an accepted file N and M, with the labels, the starts, the ends and the bounds at the front of the tables.
+// Reads a pattern file of the third edition, connected or not, into tables that have room for every one: N and M, with
+// the labels, the starts, the ends and the bounds at the front of the tables; or the refusal, which is 13 where what
+// stands before the bounds is accepted and a bound is not from 1 to 4.
 pub fn load_bounded(
     file: &[u8],
     labels: &mut [u32],
     starts: &mut [u16],
     ends: &mut [u16],
     bounds: &mut [u16],
-) -> FileRead
+) -> Result<FileRead, Refusal>
     requires tables_room { TablesRoom role.AnyPattern (circuit labels.old starts.old ends.old) }
     requires in_bounds { 256 ≤ length bounds.old }
     ensures { BoundsLoaded file.now result
         (circuit labels.new starts.new ends.new) bounds.new }
 {
-    let number = size_number(file);
-    if number != 0 {
-        return refused_bounded(number);
-    }
+    check_size(file)?;
     let n = field_at(file, 0) as usize;
     let m = field_at(file, 1) as usize;
     let at = 4 + 4 * n + 4 * m;
@@ -109,13 +71,9 @@ pub fn load_bounded(
         labels,
         starts,
         ends,
-    );
-    let fits = read_bounds(file, at, m, bounds);
-    let verdict = read.verdict;
-    FileRead {
-        verdict: judged(verdict, fits),
-        nodes: read.nodes,
-        links: read.links,
-        radius: read.radius,
+    )?;
+    if !read_bounds(file, at, m, bounds) {
+        return Err(refusal(Role::AnyPattern, 13));
     }
+    Ok(read)
 }

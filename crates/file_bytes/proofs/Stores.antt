@@ -1,6 +1,6 @@
 -- Laws of numbers stored as bytes. Assumes nothing.
 use Rattle.std.specs.Prelude.{◌≡◌, ◌∷◌, ◌++◌, ◌≤◌, ◌<◌, ◌+◌, ◌*◌, ◌/◌, ◌%◌}
-use Rattle.base_lists.specs.Kit.{◌∙◌, sym, ap, refl, ap₂, List, [], append_assoc, ℕ, add-zero, add-one, length, get_or, take, drop, set, length-append, take-append-drop, length-take-le, take_at, take_all, drop_at, take-suc, sets-eq, drop-drop, arith}
+use Rattle.base_lists.specs.Kit.{◌∙◌, sym, ap, refl, ap₂, List, [], append_assoc, ℕ, add-zero, add-one, length, get_or, take, drop, set, length-append, take-append-drop, length-take-le, take_at, drop_at, take-suc, sets-eq, drop-drop, arith}
 use Rattle.file_format.specs.Reading.{filled}
 use Rattle.file_format.specs.Refusals.{accept}
 use Rattle.file_bytes.specs.Bytes.{bytes_of, stretch_bytes, stored}
@@ -53,10 +53,6 @@ pub stored_more : (old : List ℕ) (at : ℕ) (xs : List ℕ) (i : ℕ) → i < 
 stored_more old at xs i h room =
     stored-append old at (take i xs) (at + 2 * i) (get_or xs i 0 ∷ []) (omega (arith, length-take-le i xs (omega arith))) (omega arith)
     ∙ ap (stored old at) (sym (take-suc xs i 0 h) ∙ ap (λ (k : ℕ). take k xs) (sym (add-one i)))
-
--- the whole list
-pub stored-all : (old : List ℕ) (at : ℕ) (xs : List ℕ) (i : ℕ) → length xs ≤ i → stored old at (take i xs) ≡ stored old at xs
-stored-all old at xs i h = ap (stored old at) (take_all i xs h)
 
 -- ---- the file, stored stretch by stretch
 

@@ -20,11 +20,8 @@ fn store(numbers: &[u16], at: usize, out: &mut [u8])
     requires { at + 2 * length numbers.now ≤ length out.old }
     ensures { out.new ≡ stored out.old at numbers.now }
 {
-    let count = numbers.len();
-    let mut i = 0;
-    while i < count {
-        store_field(numbers[i], at + 2 * i, out);
-        i += 1;
+    for (i, &x) in numbers.iter().enumerate() {
+        store_field(x, at + 2 * i, out);
     }
 }
 

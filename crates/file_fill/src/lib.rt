@@ -9,7 +9,7 @@ ghost use Rattle.file_format.specs.Reply.{read_reply};
 ghost use Rattle.file_format.specs.declared.Role.{Role};
 
 use file_fields::{store_labels, store_two, stretch};
-use file_format::{Edition, ReadAnswer, TOO_SHORT, package_count};
+use file_format::{Edition, Refusal, Size, TOO_SHORT, package_count};
 
 // The starts and the ends of a file of n nodes and m links, each stored in its table.
 pub fn fill_links(
@@ -58,7 +58,7 @@ pub fn fill_fitting(
     packages: &mut [u16],
     starts: &mut [u16],
     ends: &mut [u16],
-) -> ReadAnswer
+) -> Result<Size, Refusal>
     requires { (n ≡ nodes_of (in_edition edition file.now)) × (m ≡ links_of (in_edition edition file.now))
         × (length file.now ≡ length_of edition n m) }
     ensures { (role : Role) → first (file_conditions role (in_edition edition file.now)) ≡ accept
@@ -66,21 +66,20 @@ pub fn fill_fitting(
         ≡ reading role (in_edition edition file.now) kinds.old packages.old
         starts.old ends.old }
 {
-    let short = ReadAnswer::Refused(TOO_SHORT);
     if kinds.len() < n {
-        return short;
+        return Err(TOO_SHORT);
     }
     let p = package_count(edition, n);
     if packages.len() < p {
-        return short;
+        return Err(TOO_SHORT);
     }
     if starts.len() < m {
-        return short;
+        return Err(TOO_SHORT);
     }
     if ends.len() < m {
-        return short;
+        return Err(TOO_SHORT);
     }
     store_two(file, 4, n, kinds, p, packages);
     fill_links(edition, file, n, m, starts, ends);
-    ReadAnswer::Read(n, m)
+    Ok(Size::new(n, m))
 }

@@ -8,9 +8,9 @@ use Rattle.file_format.specs.declared.Edition.{Edition}
 use Rattle.file_format.specs.declared.Edition.TheVariants.{First, Second}
 use Rattle.file_format.specs.declared.Role.{Role}
 use Rattle.file_format.specs.Layout.{CircuitFile, in_edition, field, nodes_of, links_of, length_of}
-use Rattle.file_format.specs.Refusals.{accept, first, file_conditions, size_number}
+use Rattle.file_format.specs.Refusals.{accept, first, file_conditions, size_number, turned}
 use Rattle.file_format.specs.Role.{in_range, max_nodes, max_links}
-use Rattle.file_format.proofs.Refusals.{accepted, range-orders, turned, size-2, size-3, verdict-turned}
+use Rattle.file_format.proofs.Refusals.{accepted, range-orders, size-2, size-3, verdict-turned}
 use Rattle.file_format.specs.Cut.{most, cut}
 
 -- a header is read whole

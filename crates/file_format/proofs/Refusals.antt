@@ -10,7 +10,7 @@ use Rattle.file_format.specs.declared.Role.{Role}
 use Rattle.file_format.specs.declared.Role.TheVariants.{Pattern, Board, AnyPattern}
 use Rattle.file_format.specs.Layout.{CircuitFile, nodes_of, links_of, length_of, starts_of, ends_of}
 use Rattle.file_format.specs.Links.{links_below, rising}
-use Rattle.file_format.specs.Refusals.{Accepted, Condition, Verdict, accept, refuse, NoneHolds, first, FirstHolding, link_conditions, file_conditions, widest, asks_connected, size_number, link_order_number, link_number, short_table}
+use Rattle.file_format.specs.Refusals.{Accepted, Condition, Verdict, accept, refuse, NoneHolds, first, FirstHolding, link_conditions, file_conditions, widest, asks_connected, size_number, link_order_number, link_number, short_table, turned, by_number}
 use Rattle.file_format.specs.Role.{min_nodes, max_nodes, max_links, in_range, file_of}
 use Rattle.file_format.specs.Reply.{reply}
 
@@ -193,14 +193,6 @@ module _ (n : ℕ) (starts ends : List ℕ) where
 
 -- ---- the conditions on a file, one after another: the number of bytes, the range, the length, the links
 
--- a refusal in a role
-unfoldable pub turned : Role → ℕ → Verdict
-turned r k = refuse (record { number = k; file = file_of r })
-
--- the verdict that the links' number gives
-unfoldable pub by_number : Role → ℕ → Verdict
-by_number r k = cond (eqb k 0) accept (turned r k)
-
 pub number-turned : (r : Role) (k : ℕ) → (k ≡ 0 → ⊥) → by_number r k ≡ turned r k
 unfolding by_number
 number-turned r k h = simp (ne_eqb _ _ h)
@@ -208,6 +200,19 @@ number-turned r k h = simp (ne_eqb _ _ h)
 pub number-accept : (r : Role) (k : ℕ) → k ≡ 0 → by_number r k ≡ accept
 unfolding by_number
 number-accept r k h = simp (eq-eqb _ _ h)
+
+pub number-none : (r : Role) (k : ℕ) → by_number r k ≡ accept → k ≡ 0
+unfolding by_number turned
+number-none r k e = go (eqb k 0) refl e
+  where
+    go : (b : Bool) → eqb k 0 ≡ b → cond b accept (refuse (record { number = k; file = file_of r })) ≡ accept → k ≡ 0
+    go true q h = eqb-true _ _ q
+    go false q h = absurd (accept-not-refuse (sym h))
+
+pub number-refused : (r : Role) (k : ℕ) {x : Refusal} → by_number r k ≡ refuse x → (k ≡ 0 → ⊥) × (turned r k ≡ refuse x)
+number-refused r k e =
+    let none : k ≡ 0 → ⊥ = λ z. accept-not-refuse (sym (number-accept r k z) ∙ e) in
+    (none, sym (number-turned r k none) ∙ e)
 
 -- the first of the conditions on the links is the one that their number says
 pub verdict-number : (r : Role) (n : ℕ) (starts ends : List ℕ) → first (link_conditions r n starts ends) ≡ by_number r (link_number r n starts ends)

@@ -1,20 +1,18 @@
 -- The call that reads a circuit file, whole: its reply and each table's later content, from the inputs alone; and what a call that goes on
 -- with the circuit knows of a file that was read.
-use Rattle.std.specs.Prelude.{◌≡◌, ◌∷◌, ◌++◌, ◌≤◌}
+use Rattle.std.specs.Prelude.{◌≡◌, ◌∷◌, ◌++◌, ◌≤◌, Result, Ok, Err}
 use Rattle.base_lists.specs.Kit.{List, [], ℕ, T, length, take, drop}
 use Rattle.graph.specs.Circuit.{Circuit}
 use Rattle.graph.specs.Search.{radius}
 use Rattle.file_format.specs.declared.FileRead.{FileRead}
-use Rattle.file_format.specs.declared.FileVerdict.{FileVerdict}
-use Rattle.file_format.specs.declared.FileVerdict.TheVariants as verdict
-use Rattle.file_format.specs.declared.ReadAnswer.{ReadAnswer}
-use Rattle.file_format.specs.declared.ReadAnswer.TheVariants.{Read, Refused}
+use Rattle.file_format.specs.declared.Refusal.{Refusal}
 use Rattle.file_format.specs.declared.Role.{Role}
+use Rattle.file_format.specs.declared.Size.{Size}
 use Rattle.file_format.specs.Layout.{CircuitFile, package_count, nodes_of, links_of, kinds_of, packages_of, starts_of, ends_of}
-use Rattle.file_format.specs.Refusals.{Condition, Verdict, accept, refuse, first, asks_connected, file_conditions, link_number, short_table}
+use Rattle.file_format.specs.Refusals.{Condition, Verdict, accept, refuse, first, asks_connected, file_conditions, link_number, by_number, short_table}
 use Rattle.file_format.specs.Role.{max_nodes, max_links}
 use Rattle.file_format.specs.Circuit.{circuit_of}
-use Rattle.file_format.specs.Reply.{Reply, reply}
+use Rattle.file_format.specs.Reply.{Reply, reply, verdict_of}
 
 -- "Needed: reading N, M, M"; "Reading the second fills N packages too"
 unfoldable pub read_conditions : Role → CircuitFile → ℕ → ℕ → ℕ → ℕ → List Condition
@@ -22,9 +20,9 @@ read_conditions role file kinds packages starts ends =
     file_conditions role file ++ (short_table (nodes_of file) kinds ∷ short_table (package_count file.edition (nodes_of file)) packages ∷ short_table (links_of file) starts ∷ short_table (links_of file) ends ∷ [])
 
 -- "Reading fills kinds, starts and ends and replies with N and M."
-unfoldable pub read_answer : Verdict → ℕ → ℕ → ReadAnswer
-read_answer accept n m = Read n m
-read_answer (refuse x) n m = Refused x
+unfoldable pub read_answer : Verdict → ℕ → ℕ → Result Size Refusal
+read_answer accept n m = Ok (record { nodes = n; links = m })
+read_answer (refuse x) n m = Err x
 
 -- "All lent tables keep their content" where the call is refused; "Accepted calls leave entries past those needed."
 unfoldable pub filled : Verdict → List ℕ → List ℕ → List ℕ
@@ -33,7 +31,7 @@ filled (refuse x) values old = old
 
 -- the answer, what it is in document 01's terms (Reply `read_reply`), and the four tables as the call leaves them
 pub record ReadOutcome : Type 0 where
-  pub answer : ReadAnswer
+  pub answer : Result Size Refusal
   pub reply : Reply
   pub kinds : List ℕ
   pub packages : List ℕ
@@ -54,11 +52,6 @@ reading role file kinds packages starts ends =
     }
 
 -- ---- a file that was read for a call
-
--- a verdict of the code, in the words of the conditions
-unfoldable pub verdict_of : FileVerdict → Verdict
-verdict_of verdict.Accepted = accept
-verdict_of (verdict.Refused x) = refuse x
 
 -- n labels and m links at the front of three tables
 abbrev pub prefix : ℕ → ℕ → Circuit → Circuit
@@ -82,11 +75,11 @@ pub record Held (r : Role) (file : CircuitFile) (read : FileRead) (tables : Circ
   pub measured : T (asks_connected r) → read.radius ≡ radius (nodes_of file) (starts_of file) (ends_of file)
 
 -- a file was read: the verdict is that of the conditions 1 to 6 and 11
-pub record Loaded (r : Role) (file : CircuitFile) (read : FileRead) (tables : Circuit) : Type 0 where
-  pub verdict : verdict_of read.verdict ≡ first (file_conditions r file)
-  pub held : first (file_conditions r file) ≡ accept → Held r file read tables
+pub record Loaded (r : Role) (file : CircuitFile) (read : Result FileRead Refusal) (tables : Circuit) : Type 0 where
+  pub verdict : verdict_of read ≡ first (file_conditions r file)
+  pub held : (size : FileRead) → read ≡ Ok size → Held r file size tables
 
 -- the conditions 4, 5, 6 and 11 on links that are given as numbers, and a pattern's radius where none of them holds
-pub record LinksTested (r : Role) (n : ℕ) (starts ends : List ℕ) (k width : ℕ) : Type 0 where
-  pub number : k ≡ link_number r n starts ends
-  pub measured : k ≡ 0 → T (asks_connected r) → width ≡ radius n starts ends
+pub record LinksTested (r : Role) (n : ℕ) (starts ends : List ℕ) (tested : Result ℕ Refusal) : Type 0 where
+  pub verdict : verdict_of tested ≡ by_number r (link_number r n starts ends)
+  pub measured : (width : ℕ) → tested ≡ Ok width → T (asks_connected r) → width ≡ radius n starts ends

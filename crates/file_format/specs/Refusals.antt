@@ -93,6 +93,14 @@ pub record Accepted (r : Role) (file : CircuitFile) : Type 0 where
   pub joined : T (asks_connected r) → T (connected (nodes_of file) (starts_of file) (ends_of file))
   pub narrow : T (asks_connected r) → radius (nodes_of file) (starts_of file) (ends_of file) ≤ widest
 
+-- refused in a role by a number,
+unfoldable pub turned : Role → ℕ → Verdict
+turned r k = refuse (record { number = k; file = file_of r })
+
+-- and where the number is 0, accepted
+unfoldable pub by_number : Role → ℕ → Verdict
+by_number r k = cond (eqb k 0) accept (turned r k)
+
 -- the number of the first condition on a file's size that holds, 1, 2 or 3, and 0 where none does
 unfoldable pub size_number : Role → CircuitFile → ℕ
 size_number r file =

@@ -13,7 +13,8 @@ pub enum File {
     Neither,
 }
 
-// Why a call was turned away: the number of the condition, and the file that it means.
+// Why a call was turned away: the number of the condition, and the file that it means. (A number and no enum: the
+// conditions of specs/Refusals have theirs, and C and the report get it.)
 #[derive(Clone, Copy)]
 pub struct Refusal {
     pub number: u8,
@@ -65,48 +66,32 @@ pub fn package_count(edition: Edition, n: usize) -> usize
     }
 }
 
-// What reading a file comes to: N and M, or why it was turned away.
+// The size of a circuit: N and M.
 #[derive(Clone, Copy)]
-pub enum ReadAnswer {
-    Read(usize, usize),
-    Refused(Refusal),
+pub struct Size {
+    pub nodes: usize,
+    pub links: usize,
 }
 
-// Whether a file is accepted, or why it was turned away.
-#[derive(Clone, Copy)]
-pub enum FileVerdict {
-    Accepted,
-    Refused(Refusal),
+impl Size {
+    pub fn new(nodes: usize, links: usize) -> Self
+        ensures { result ≡ record { nodes = nodes; links = links } }
+    {
+        Self { nodes, links }
+    }
 }
 
-// A file that was read for a call: the verdict; and of an accepted file N and M, and of an accepted pattern the radius.
+// An accepted file that was read for a call: N and M, and of a pattern the radius.
 #[derive(Clone, Copy)]
 pub struct FileRead {
-    pub verdict: FileVerdict,
     pub nodes: usize,
     pub links: usize,
     pub radius: u16,
 }
 
-// From `least` to `most` nodes, and at most `links` links.
-fn within(nodes: usize, links: usize, least: usize, most: usize, most_links: usize) -> bool
-    ensures { result ≡ (leb least nodes && (leb nodes most && leb links most_links)) }
-{
-    if nodes < least {
-        return false;
-    }
-    if most < nodes {
-        return false;
-    }
-    links <= most_links
-}
-
-// The size of a pattern: nodes (parts, as document 01 calls them) and links.
-#[derive(Clone, Copy)]
-pub struct Pattern {
-    pub nodes: usize,
-    pub links: usize,
-}
+// What a pattern's file may have: from so many nodes (parts, as document 01 calls them) to so many, and so many links;
+// and how wide it may be.
+pub struct Pattern;
 
 impl Pattern {
     pub const MIN_NODES: usize = 1;
@@ -116,32 +101,10 @@ impl Pattern {
     pub const MAX_LINKS: usize = 256;
 
     pub const MAX_RADIUS: u16 = 12;
-
-    pub fn new(nodes: usize, links: usize) -> Self
-        ensures { (result.nodes ≡ nodes) × (result.links ≡ links) }
-    {
-        Self { nodes, links }
-    }
-
-    pub fn in_range(self) -> bool
-        ensures { result ≡ in_range Role.Pattern self.nodes self.links }
-    {
-        within(
-            self.nodes,
-            self.links,
-            Pattern::MIN_NODES,
-            Pattern::MAX_NODES,
-            Pattern::MAX_LINKS,
-        )
-    }
 }
 
-// The size of a board: nodes and links.
-#[derive(Clone, Copy)]
-pub struct Board {
-    pub nodes: usize,
-    pub links: usize,
-}
+// What a board's file may have.
+pub struct Board;
 
 impl Board {
     pub const MIN_NODES: usize = 0;
@@ -149,22 +112,33 @@ impl Board {
     pub const MAX_NODES: usize = 512;
 
     pub const MAX_LINKS: usize = 4096;
+}
 
-    pub fn new(nodes: usize, links: usize) -> Self
-        ensures { (result.nodes ≡ nodes) × (result.links ≡ links) }
-    {
-        Self { nodes, links }
-    }
+// From `least` to `most` nodes, and at most `links` links.
+fn within(nodes: usize, links: usize, least: usize, most: usize, most_links: usize) -> bool
+    ensures { result ≡ (leb least nodes && (leb nodes most && leb links most_links)) }
+{
+    least <= nodes && nodes <= most && links <= most_links
+}
 
-    pub fn in_range(self) -> bool
-        ensures { result ≡ in_range Role.Board self.nodes self.links }
-    {
-        within(
-            self.nodes,
-            self.links,
+// N and M are in the role's range.
+pub fn in_range(role: Role, nodes: usize, links: usize) -> bool
+    ensures { result ≡ in_range role nodes links }
+{
+    match role {
+        Role::Board => within(
+            nodes,
+            links,
             Board::MIN_NODES,
             Board::MAX_NODES,
             Board::MAX_LINKS,
-        )
+        ),
+        Role::Pattern | Role::AnyPattern => within(
+            nodes,
+            links,
+            Pattern::MIN_NODES,
+            Pattern::MAX_NODES,
+            Pattern::MAX_LINKS,
+        ),
     }
 }

@@ -1,7 +1,8 @@
 -- Laws of the tests on links, for the loops that go through them. Assumes nothing.
 use Rattle.std.specs.Prelude.{◌≡◌, ◌⊎◌, ◌≤◌, ◌<◌, ◌+◌, ◌-◌}
-use Rattle.base_lists.specs.Kit.{◌∙◌, sym, ap, refl, inl, inr, Bool, false, true, List, ℕ, le_trans, le_of_eq, eq-or-lt_of_le, ltb, ltb→lt, lt→ltb, length, get_or, arith, ltb-false, ltb-true}
-use native.Mathlib.Decide.{dec_lt}
+use Rattle.base_lists.specs.Kit.{◌∙◌, sym, ap, refl, inl, inr, Bool, false, true, List, ℕ, eq-or-lt_of_le, ltb, ltb→lt, lt→ltb, length, get_or, arith, ltb-false, ltb-true}
+use Rattle.std.specs.List.{All, Contains}
+use Rattle.std.proofs.lemmas.List.{get_or_default}
 use Rattle.base_lists.specs.List.{all}
 use Rattle.base_lists.proofs.Tests.{all-at, at_all, all_below-at, at-all_below, T_true, T_false}
 use Rattle.file_format.specs.Links.{packed, numbers_rise}
@@ -15,48 +16,14 @@ module _ (xs : List ℕ) (n : ℕ) where
   pub not_all_below : (i : ℕ) → i < length xs → n ≤ get_or xs i 0 → all (λ v. ltb v n) xs ≡ false
   not_all_below i h le = T_false (λ t. omega (arith, ltb→lt (get_or xs i 0) n (all-at (λ v. ltb v n) xs t i h)))
 
--- of the first k numbers one is the greatest
-pub record Greatest (xs : List ℕ) (k most : ℕ) : Type 0 where
-  pub bounds : (j : ℕ) → j < k → get_or xs j 0 ≤ most
-  pub place : ℕ
-  pub within : place < k
-  pub is : get_or xs place 0 ≡ most
-
-module _ (xs : List ℕ) where
-  pub greatest-one : Greatest xs 1 (get_or xs 0 0)
-  greatest-one = record { bounds = only; place = 0; within = omega arith; is = refl }
-    where
-      only : (j : ℕ) → j < 1 → get_or xs j 0 ≤ get_or xs 0 0
-      only j h = let e : j ≡ 0 = omega arith in le_of_eq (ap (λ (i : ℕ). get_or xs i 0) e)
-
-  module _ (k most : ℕ) (g : Greatest xs k most) where
-    -- a further number is the greatest, or the greatest stays so
-    pub greatest-next : most < get_or xs k 0 → Greatest xs (k + 1) (get_or xs k 0)
-    greatest-next more = record { bounds = up; place = k; within = omega arith; is = refl }
-      where
-        up : (j : ℕ) → j < k + 1 → get_or xs j 0 ≤ get_or xs k 0
-        up j h = go (dec_lt j k)
-          where
-            go : Dec (j < k) → get_or xs j 0 ≤ get_or xs k 0
-            go (yes l) = omega (arith, g.bounds j l)
-            go (no l) = let e : j ≡ k = omega arith in le_of_eq (ap (λ (i : ℕ). get_or xs i 0) e)
-
-    pub greatest-stays : get_or xs k 0 ≤ most → Greatest xs (k + 1) most
-    greatest-stays less = record { bounds = up; place = g.place; within = omega (arith, g.within); is = g.is }
-      where
-        up : (j : ℕ) → j < k + 1 → get_or xs j 0 ≤ most
-        up j h = go (dec_lt j k)
-          where
-            go : Dec (j < k) → get_or xs j 0 ≤ most
-            go (yes l) = g.bounds j l
-            go (no l) = let e : j ≡ k = omega arith in le_trans (le_of_eq (ap (λ (i : ℕ). get_or xs i 0) e)) less
-
-  pub greatest-all : (n most : ℕ) → Greatest xs (length xs) most → ltb most n ≡ all (λ v. ltb v n) xs
-  greatest-all n most g = go (ltb most n) refl
+  -- the greatest tells
+  pub all-below_greatest : (most : ℕ) → Contains xs most → All (λ v. v ≤ most) xs → ltb most n ≡ all (λ v. ltb v n) xs
+  all-below_greatest most at le = go (ltb most n) refl
     where
       go : (b : Bool) → ltb most n ≡ b → b ≡ all (λ v. ltb v n) xs
-      go true e = sym (all-below xs n (λ i h. omega (arith, g.bounds i h, ltb-true most n e)))
-      go false e = sym (not_all_below xs n g.place g.within (omega (arith, g.is, ltb-false most n e)))
+      go true e = sym (all-below (λ i h. omega (arith, le i 0 h, ltb-true most n e)))
+      go false e =
+          sym (not_all_below at.0 at.1 (omega (arith, get_or_default xs at.0 0 most at.1, at.2, ltb-false most n e)))
 
 -- ---- each link's number below the next one's
 

@@ -4,26 +4,20 @@
 ghost use Rattle.std.specs.Prelude.{◌≡◌, ltb, length};
 ghost use Rattle.base_lists.specs.List.{all};
 ghost use Rattle.file_format.specs.Links.{packed, numbers_rise};
-ghost use Rattle.file_format.specs.Refusals.{link_order_number};
+ghost use Rattle.file_format.specs.Refusals.{by_number, link_order_number};
+ghost use Rattle.file_format.specs.Reply.{verdict_of};
 
-// Each number is below n: the greatest is. There is one way out of the loop, so that the compiler looks at several
-// numbers at a time.
+use file_format::{Refusal, Role};
+use file_role::refusal;
+
+// Each number is below n: the greatest is. (All are looked at, so that the compiler looks at several at a time.)
 fn all_below(numbers: &[u16], n: usize) -> bool
     ensures { result ≡ all (λ v. ltb v n) numbers.now }
 {
-    if numbers.len() == 0 {
-        return true;
+    match numbers.iter().copied().max() {
+        Some(most) => (most as usize) < n,
+        None => true,
     }
-    let mut most = numbers[0];
-    let mut i = 1;
-    while i < numbers.len() {
-        let next = numbers[i];
-        if most < next {
-            most = next;
-        }
-        i += 1;
-    }
-    (most as usize) < n
 }
 
 // One number of a link: its start times 65,536 plus its end.
@@ -43,31 +37,29 @@ fn links_rise(starts: &[u16], ends: &[u16]) -> bool
         return true;
     }
     let mut last = number_of(starts[0], ends[0]);
-    let mut i = 1;
-    while i < starts.len() {
+    for i in 1..starts.len() {
         let next = number_of(starts[i], ends[i]);
         if next <= last {
             return false;
         }
         last = next;
-        i += 1;
     }
     true
 }
 
-// 4 or 5, the first that the links give, or 0.
-pub fn order_number(n: usize, starts: &[u16], ends: &[u16]) -> u8
+// 4 or 5, the first that the links of a circuit in a role give.
+pub fn check_order(role: Role, n: usize, starts: &[u16], ends: &[u16]) -> Result<(), Refusal>
     requires { length starts.now ≡ length ends.now }
-    ensures { result ≡ link_order_number n starts.now ends.now }
+    ensures { verdict_of result ≡ by_number role (link_order_number n starts.now ends.now) }
 {
     if !all_below(starts, n) {
-        return 4;
+        return Err(refusal(role, 4));
     }
     if !all_below(ends, n) {
-        return 4;
+        return Err(refusal(role, 4));
     }
     if !links_rise(starts, ends) {
-        return 5;
+        return Err(refusal(role, 5));
     }
-    0
+    Ok(())
 }

@@ -1,21 +1,22 @@
 -- What reading a pattern file and a board file comes to, by cases, and what a call on both knows of it. Assumes
 -- nothing.
-use mathlib.Core.Path.{◌≡◌, sym, ap, ◌∙◌}
+use mathlib.Core.Path.{◌≡◌, sym, ap, subst, ◌∙◌}
+use Rattle.std.specs.Prelude.{Result, Ok, Err}
 use Rattle.graph.specs.Circuit.{Circuit}
 use Rattle.graph.specs.Rising.{LinksRise}
 use Rattle.graph.specs.Search.{radius}
 use Rattle.file_format.specs.declared.FileRead.{FileRead}
-use Rattle.file_format.specs.declared.FileVerdict.TheVariants.{Accepted, Refused}
 use Rattle.file_format.specs.declared.Refusal.{Refusal}
 use Rattle.file_format.specs.declared.Role.{Role}
 use Rattle.file_format.specs.declared.Role.TheVariants as role
 use Rattle.file_format.specs.Circuit.{Bounded, Drawn}
 use Rattle.file_format.specs.Layout.{CircuitFile, nodes_of, starts_of, ends_of}
-use Rattle.file_format.specs.Reading.{verdict_of, prefix, Loaded}
+use Rattle.file_format.specs.Reading.{prefix, Loaded}
+use Rattle.file_format.specs.Reply.{verdict_of}
 use Rattle.file_format.specs.Refusals as File
 use Rattle.file_format.specs.Refusals.{accept, refuse, first, file_conditions, asks_connected}
 use Rattle.file_format.proofs.Reading.{loaded-accepted, loaded-refused, stands-bounded}
-use Rattle.file_format.proofs.Refusals.{first-accept, first-refuse, first-parts, accept-not-refuse, accepted, accepted-verdict}
+use Rattle.file_format.proofs.Refusals.{first-accept, first-refuse, first-parts, accepted, accepted-verdict}
 use Rattle.file_format.proofs.Rising.{rising-links}
 use Rattle.file_pair.specs.declared.Pair.{Pair}
 use Rattle.file_pair.specs.Pair.{pair_conditions, BothRead, PairRead}
@@ -24,32 +25,36 @@ use Rattle.file_pair.specs.Pair.{pair_conditions, BothRead, PairRead}
 
 module _ (r : Role) (pattern board : CircuitFile) (parts nodes : Circuit) where
   -- the pattern is refused
-  pub pair-pattern : {drawn : FileRead} {read : Pair} {x : Refusal} → Loaded r pattern drawn parts → drawn.verdict ≡ Refused x
-      → read.verdict ≡ drawn.verdict → PairRead r pattern board read parts nodes
+  pub pair-pattern : {drawn : Result FileRead Refusal} {x : Refusal} → Loaded r pattern drawn parts → drawn ≡ Err x → PairRead r pattern board (Err x) parts nodes
   unfolding pair_conditions verdict_of
-  pair-pattern {x = x} l e q =
-      let away = first-refuse _ (file_conditions role.Board board) x (loaded-refused l e) in
-      record { verdict = ap verdict_of (q ∙ e) ∙ sym away; both = λ a. absurd (accept-not-refuse (sym a ∙ away)) }
+  pair-pattern {x = x} l e = record { verdict = sym (first-refuse _ (file_conditions role.Board board) x (loaded-refused l e)); both = λ pair q. cc }
 
-  -- it is accepted, and the board's verdict is that of the pair
-  pub pair-board : {drawn given : FileRead} → Loaded r pattern drawn parts → drawn.verdict ≡ Accepted → Loaded role.Board board given nodes
-      → PairRead r pattern board
-      (record { verdict = given.verdict; parts = drawn.nodes; joins = drawn.links; radius = drawn.radius; nodes = given.nodes; links = given.links }) parts nodes
-  unfolding pair_conditions
-  pair-board l e g =
-      let sound = loaded-accepted l e in
-      record {
-        verdict = g.verdict ∙ sym (first-accept (file_conditions r pattern) _ sound);
-        both =
-            λ a.
-            let held = l.held sound in
-            record {
-              verdict = a;
-              drawn = held.stands;
-              given = (g.held (first-parts (file_conditions r pattern) _ a).1).stands;
-              measured = held.measured;
-            };
-      }
+  module _ {drawn : Result FileRead Refusal} {size : FileRead} (l : Loaded r pattern drawn parts) (e : drawn ≡ Ok size) {given : Result FileRead Refusal}
+      (g : Loaded role.Board board given nodes) where
+    sound : first (file_conditions r pattern) ≡ accept
+    sound = loaded-accepted l e
+
+    -- it is accepted, and the board is refused
+    pub pair-board : {x : Refusal} → given ≡ Err x → PairRead r pattern board (Err x) parts nodes
+    unfolding pair_conditions verdict_of
+    pair-board q = record { verdict = sym (first-accept (file_conditions r pattern) _ sound ∙ loaded-refused g q); both = λ pair p. cc }
+
+    -- both are accepted
+    pub pair-both : {other : FileRead} → given ≡ Ok other
+        → PairRead r pattern board (Ok (record { parts = size.nodes; joins = size.links; radius = size.radius; nodes = other.nodes; links = other.links })) parts nodes
+    unfolding pair_conditions verdict_of
+    pair-both {other} q =
+        let held = l.held size e in
+        let accepts = first-accept (file_conditions r pattern) _ sound ∙ loaded-accepted g q in
+        let both : BothRead r pattern board (record { parts = size.nodes; joins = size.links; radius = size.radius; nodes = other.nodes; links = other.links }) parts nodes
+        = record { verdict = accepts; drawn = held.stands; given = (g.held other q).stands; measured = held.measured }
+        in
+        record {
+          verdict = sym accepts;
+          both = λ pair p.
+              let is : record { parts = size.nodes; joins = size.links; radius = size.radius; nodes = other.nodes; links = other.links } ≡ pair = cc in
+              subst (λ (k : Pair). BothRead r pattern board k parts nodes) is both;
+        }
 
 -- ---- the conditions on both are those on each
 
@@ -65,13 +70,9 @@ module _ (r : Role) (pattern board : CircuitFile) where
 
 -- ---- what a call knows of the two files
 
-module _ {r : Role} {pattern board : CircuitFile} {read : Pair} {parts nodes : Circuit} (p : PairRead r pattern board read parts nodes) where
-  pub both_read : read.verdict ≡ Accepted → BothRead r pattern board read parts nodes
-  unfolding verdict_of
-  both_read e = p.both (sym p.verdict ∙ ap verdict_of e)
-
-  -- what is passed up is the first refusal
-  pub refused-pair : {x : Refusal} → read.verdict ≡ Refused x → first (pair_conditions r pattern board) ≡ refuse x
+-- what is passed up is the first refusal
+module _ {r : Role} {pattern board : CircuitFile} {read : Result Pair Refusal} {parts nodes : Circuit} (p : PairRead r pattern board read parts nodes) where
+  pub refused-pair : {x : Refusal} → read ≡ Err x → first (pair_conditions r pattern board) ≡ refuse x
   unfolding verdict_of
   refused-pair e = sym p.verdict ∙ ap verdict_of e
 

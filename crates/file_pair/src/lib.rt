@@ -1,40 +1,24 @@
 // A pattern file and a board file, read for a call on both.
 #![tactic(auto)]
 
-ghost use Rattle.std.specs.Prelude.{◌≡◌};
 ghost use Rattle.graph.specs.Circuit.{circuit};
 ghost use Rattle.file_format.specs.Layout.{in_edition};
 ghost use Rattle.file_format.specs.Reading.{TablesRoom};
 ghost use Rattle.file_format.specs.declared.Role.TheVariants as roles;
 ghost use Rattle.file_pair.specs.Pair.{PairRead};
 
-use file_format::{Editions, FileVerdict, Role};
+use file_format::{Editions, Refusal, Role};
 use file_read::load;
 
-// What reading the two comes to: both are accepted, or why one was turned away; and where both are accepted the
-// pattern's N and M and, if it has to be connected, its radius, and the board's N and M.
+// Two accepted files that were read: the pattern's N and M and, if it has to be connected, its radius, and the board's N
+// and M.
 #[derive(Clone, Copy)]
 pub struct Pair {
-    pub verdict: FileVerdict,
     pub parts: usize,
     pub joins: usize,
     pub radius: u16,
     pub nodes: usize,
     pub links: usize,
-}
-
-// A pair of which the pattern was turned away.
-fn refused_pair(verdict: FileVerdict) -> Pair
-    ensures { result.verdict ≡ verdict }
-{
-    Pair {
-        verdict,
-        parts: 0,
-        joins: 0,
-        radius: 0,
-        nodes: 0,
-        links: 0,
-    }
 }
 
 // Reads the pattern, in the role told, then the board, each in its edition: their sizes, with the two circuits at the
@@ -50,7 +34,7 @@ pub fn read_pair(
     nk: &mut [u32],
     ns: &mut [u16],
     ne: &mut [u16],
-) -> Pair
+) -> Result<Pair, Refusal>
     requires { TablesRoom role (circuit pk.old ps.old pe.old) ×
         TablesRoom roles.Board (circuit nk.old ns.old ne.old) }
     ensures { PairRead role (in_edition editions.pattern pattern.now)
@@ -58,21 +42,13 @@ pub fn read_pair(
         (circuit pk.new ps.new pe.new)
         (circuit nk.new ns.new ne.new) }
 {
-    let edition = editions.pattern;
-    let drawn = load(role, edition, pattern, pk, ps, pe);
-    let first = drawn.verdict;
-    let FileVerdict::Accepted = first else {
-        return refused_pair(first);
-    };
-    let edition = editions.board;
-    let given = load(Role::Board, edition, board, nk, ns, ne);
-    let verdict = given.verdict;
-    Pair {
-        verdict,
+    let drawn = load(role, editions.pattern, pattern, pk, ps, pe)?;
+    let given = load(Role::Board, editions.board, board, nk, ns, ne)?;
+    Ok(Pair {
         parts: drawn.nodes,
         joins: drawn.links,
         radius: drawn.radius,
         nodes: given.nodes,
         links: given.links,
-    }
+    })
 }

@@ -6,29 +6,15 @@ ghost use Rattle.graph.specs.Circuit.{circuit};
 ghost use Rattle.file_format.specs.Layout.{in_edition};
 ghost use Rattle.file_format.specs.Reading.{reading, TablesRoom, Loaded};
 ghost use Rattle.file_format.specs.Reply.{read_reply};
-ghost use Rattle.file_format.specs.Role.{file_of};
 
-use file_check::{size_number, test_links};
+use file_check::{check_links, check_size};
 use file_fields::field_at;
 use file_fill::{fill_fitting, fill_labels, fill_links};
-use file_format::{Board, Edition, FileRead, FileVerdict, ReadAnswer, Role};
-use file_role::refusal;
+use file_format::{Board, Edition, FileRead, Refusal, Role, Size};
 
-// The answer that turns a file away.
-fn refused_read(role: Role, number: u8) -> FileRead
-    ensures { result.verdict ≡ FileVerdict.Refused (record { number = number; file = file_of role }) }
-{
-    FileRead {
-        verdict: FileVerdict::Refused(refusal(role, number)),
-        nodes: 0,
-        links: 0,
-        radius: 0,
-    }
-}
-
-// Reads a file for a call that goes on with its circuit, into tables that have room for every file of the role: the
-// verdict; and of an accepted file N and M, with the labels, the starts and the ends at the front of the tables, and a
-// pattern's radius. The links are stored once, and tested where they stand.
+// Reads a file for a call that goes on with its circuit, into tables that have room for every file of the role: N and M,
+// and a pattern's radius, with the labels, the starts and the ends at the front of the tables; or the refusal. The links
+// are stored once, and tested where they stand.
 pub fn load(
     role: Role,
     edition: Edition,
@@ -36,29 +22,22 @@ pub fn load(
     labels: &mut [u32],
     starts: &mut [u16],
     ends: &mut [u16],
-) -> FileRead
+) -> Result<FileRead, Refusal>
     requires { TablesRoom role (circuit labels.old starts.old ends.old) }
     ensures { Loaded role (in_edition edition file.now) result
         (circuit labels.new starts.new ends.new) }
 {
-    let number = size_number(role, edition, file);
-    if number != 0 {
-        return refused_read(role, number);
-    }
+    check_size(role, edition, file)?;
     let n = field_at(file, 0) as usize;
     let m = field_at(file, 1) as usize;
     fill_labels(edition, file, n, m, labels);
     fill_links(edition, file, n, m, starts, ends);
-    let tested = test_links(role, n, &starts[..m], &ends[..m]);
-    if tested.number != 0 {
-        return refused_read(role, tested.number);
-    }
-    FileRead {
-        verdict: FileVerdict::Accepted,
+    let radius = check_links(role, n, &starts[..m], &ends[..m])?;
+    Ok(FileRead {
         nodes: n,
         links: m,
-        radius: tested.radius,
-    }
+        radius,
+    })
 }
 
 // Reads a file of an edition in a role: N and M, with the kinds, the packages where the edition has them, the starts
@@ -72,7 +51,7 @@ pub fn read(
     packages: &mut [u16],
     starts: &mut [u16],
     ends: &mut [u16],
-) -> ReadAnswer
+) -> Result<Size, Refusal>
     ensures { record { answer = result; reply = read_reply result; kinds = kinds.new; packages = packages.new; starts = starts.new; ends = ends.new }
         ≡ reading role (in_edition edition file.now) kinds.old packages.old
         starts.old ends.old }
@@ -80,19 +59,8 @@ pub fn read(
     let mut l = [0u32; Board::MAX_NODES];
     let mut s = [0u16; Board::MAX_LINKS];
     let mut e = [0u16; Board::MAX_LINKS];
-    let loaded = load(role, edition, file, &mut l, &mut s, &mut e);
-    let verdict = loaded.verdict;
-    let FileVerdict::Refused(x) = verdict else {
-        return fill_fitting(
-            edition,
-            file,
-            loaded.nodes,
-            loaded.links,
-            kinds,
-            packages,
-            starts,
-            ends,
-        );
-    };
-    ReadAnswer::Refused(x)
+    let loaded = load(role, edition, file, &mut l, &mut s, &mut e)?;
+    let n = loaded.nodes;
+    let m = loaded.links;
+    fill_fitting(edition, file, n, m, kinds, packages, starts, ends)
 }

@@ -4,10 +4,11 @@
 
 ghost use Rattle.std.specs.Prelude.{cond, ◌≡◌, ◌<◌, eqb};
 ghost use Rattle.file_format.specs.Layout.{length_of};
-ghost use Rattle.file_format.specs.Refusals.{asks_connected, width_number};
+ghost use Rattle.file_format.specs.Refusals.{by_number, asks_connected, width_number};
+ghost use Rattle.file_format.specs.Reply.{verdict_of};
 ghost use Rattle.file_format.specs.Role.{in_range, file_of};
 
-use file_format::{Board, Edition, File, Pattern, Refusal, Role, package_count};
+use file_format::{Edition, File, Pattern, Refusal, Role, in_range, package_count};
 
 // The file that a role's refusals name.
 fn file_of(role: Role) -> File
@@ -28,17 +29,6 @@ pub fn refusal(role: Role, number: u8) -> Refusal
     Refusal { number, file }
 }
 
-// N and M are in the role's range.
-pub fn in_range(role: Role, nodes: usize, links: usize) -> bool
-    ensures { result ≡ in_range role nodes links }
-{
-    match role {
-        Role::Pattern => Pattern::new(nodes, links).in_range(),
-        Role::Board => Board::new(nodes, links).in_range(),
-        Role::AnyPattern => Pattern::new(nodes, links).in_range(),
-    }
-}
-
 // The length of a file of an edition, of n nodes and m links.
 pub fn length_of(edition: Edition, n: usize, m: usize) -> usize
     requires { (n < 65536) × (m < 65536) }
@@ -47,17 +37,24 @@ pub fn length_of(edition: Edition, n: usize, m: usize) -> usize
     4 + 2 * n + 2 * package_count(edition, n) + 4 * m
 }
 
-// 2 or 3, the first that N, M and a file's length give, where its edition asks for another; or 0.
-pub fn counts_number(role: Role, n: usize, m: usize, length: usize, asked: usize) -> u8
-    ensures { result ≡ cond (in_range role n m) (cond (eqb length asked) 0 3) 2 }
+// 2 or 3, the first that N, M and a file's length give, where its edition asks for another.
+pub fn check_counts(
+    role: Role,
+    n: usize,
+    m: usize,
+    length: usize,
+    asked: usize,
+) -> Result<(), Refusal>
+    ensures { verdict_of result
+        ≡ by_number role (cond (in_range role n m) (cond (eqb length asked) 0 3) 2) }
 {
     if !in_range(role, n, m) {
-        return 2;
+        return Err(refusal(role, 2));
     }
     if length != asked {
-        return 3;
+        return Err(refusal(role, 3));
     }
-    0
+    Ok(())
 }
 
 // A circuit in the role has to be connected.
@@ -71,15 +68,15 @@ pub fn asks_connected(role: Role) -> bool
     }
 }
 
-// 6 or 11, by a pattern's radius, which is 65535 where the links do not join all parts; or 0.
-pub fn width_number(radius: u16) -> u8
-    ensures { result ≡ width_number radius }
+// 6 or 11, by a pattern's radius, which is 65535 where the links do not join all parts.
+pub fn check_width(role: Role, radius: u16) -> Result<(), Refusal>
+    ensures { verdict_of result ≡ by_number role (width_number radius) }
 {
     if radius == 65535 {
-        return 6;
+        return Err(refusal(role, 6));
     }
     if Pattern::MAX_RADIUS < radius {
-        return 11;
+        return Err(refusal(role, 11));
     }
-    0
+    Ok(())
 }

@@ -1,6 +1,6 @@
 -- Reading and writing undo each other, over all inputs: what was written reads back as the same circuit, what was read writes back to
 -- the same bytes, and a circuit has one file. Assumes nothing.
-use Rattle.std.specs.Prelude.{◌≡◌, ◌↔◌, ◌++◌, ◌≤◌}
+use Rattle.std.specs.Prelude.{◌≡◌, ◌↔◌, ◌++◌, ◌≤◌, Ok}
 use Rattle.base_lists.specs.Kit.{◌∙◌, sym, ap, refl, ap₂, List, ℕ, le_of_eq, T, ltb, length, get_or, take, drop, take_at, take_all, arith}
 use Rattle.base_lists.specs.List.{all, Below}
 use Rattle.base_lists.proofs.Tests.{T_true}
@@ -11,21 +11,19 @@ use Rattle.file_format.proofs.Labels.{length-kinds-in, length-packages-in, plain
 use Rattle.graph.proofs.RisingLinks.{rising-determined}
 use Rattle.file_format.specs.declared.Edition.{Edition}
 use Rattle.file_format.specs.declared.Edition.TheVariants.{First, Second}
-use Rattle.file_format.specs.declared.ReadAnswer.TheVariants as read
 use Rattle.file_format.specs.declared.Role.{Role}
 use Rattle.file_format.specs.Layout.{CircuitFile, in_edition, package_count, kinds_of, packages_of, starts_of, ends_of, labels_of, length_of}
 use Rattle.file_format.specs.Reading.{ReadOutcome, reading, filled}
-use Rattle.file_format.specs.Refusals.{accept, first, file_conditions}
-use Rattle.file_format.specs.Reply.{read_reply}
+use Rattle.file_format.specs.Refusals.{accept, first, file_conditions, by_number}
+use Rattle.file_format.specs.Reply.{read_reply, number_reply}
 use Rattle.file_format.specs.Role.{in_range}
 use Rattle.file_format.proofs.Fields.{length-kinds, length-packages, length-starts, length-ends, count-again}
 use Rattle.file_format.proofs.Reading.{reading-filled, reading-accepted}
 use Rattle.file_format.proofs.Refusals.{accepted}
 use Rattle.file_format.proofs.Refusals as file
 use Rattle.file_format.proofs.Rising.{rising-links}
-use Rattle.file_write.specs.declared.WriteAnswer.TheVariants.{Written}
 use Rattle.file_write.specs.Bytes.{file_bytes, kinds_for, circuit_bytes, LabelsFit}
-use Rattle.file_write.specs.Writing.{circuit_conditions, WriteOutcome, writing, write_reply}
+use Rattle.file_write.specs.Writing.{circuit_conditions, WriteOutcome, writing}
 use Rattle.file_write.proofs.FileFields.{nodes-written, links-written, kinds-written, packages-written, starts-written, ends-written, length-written, file-again}
 use Rattle.file_write.proofs.Writing.{verdict-links, sound, writing-filled, writing-accepted}
 
@@ -44,12 +42,12 @@ same-verdict r e kinds packages starts ends t pairs given =
     let size = file.size-0 r written (length kinds) (length starts) (sym n) (sym m) (omega arith) (T_true t) long in
     verdict-links r e kinds packages starts ends (T_true t) pairs given
     ∙ file.verdict-number r (length kinds) starts ends
-    ∙ ap (file.by_number r) (rw (n, starts-written e kinds packages starts ends given, ends-written e kinds packages starts ends given pairs))
+    ∙ ap (by_number r) (rw (n, starts-written e kinds packages starts ends given, ends-written e kinds packages starts ends given pairs))
     ∙ sym (file.verdict-links r written size)
 
 -- ---- what was written reads back
 
-module _ (r : Role) (e : Edition) (kinds packages starts ends out : List ℕ) (size : ℕ) (w : (writing r e kinds packages starts ends out).answer ≡ Written size) where
+module _ (r : Role) (e : Edition) (kinds packages starts ends out : List ℕ) (size : ℕ) (w : (writing r e kinds packages starts ends out).answer ≡ Ok size) where
   ok : first (circuit_conditions r e kinds packages starts ends) ≡ accept
   ok = (writing-accepted r e kinds packages starts ends out size w).0
 
@@ -59,7 +57,7 @@ module _ (r : Role) (e : Edition) (kinds packages starts ends out : List ℕ) (s
   written-file =
       let (_, room) = writing-accepted r e kinds packages starts ends out size w in
       let o = writing-filled r e kinds packages starts ends out ok room in
-      let long : Written (length_of e (length kinds) (length starts)) ≡ Written size = sym (ap (λ (o : WriteOutcome). o.answer) o) ∙ w in
+      let long : Ok (length_of e (length kinds) (length starts)) ≡ Ok size = sym (ap (λ (o : WriteOutcome). o.answer) o) ∙ w in
       let is : length_of e (length kinds) (length starts) ≡ size = cc in
       let h = sound r e kinds packages starts ends ok in
       ap (λ (o : WriteOutcome). take size o.out) o
@@ -75,8 +73,8 @@ module _ (r : Role) (e : Edition) (kinds packages starts ends out : List ℕ) (s
   pub written-reads : (ks ps ss es : List ℕ) → length kinds ≤ length ks → package_count e (length kinds) ≤ length ps → length starts ≤ length ss → length ends ≤ length es
       → reading r (in_edition e (take size (writing r e kinds packages starts ends out).out)) ks ps ss es
       ≡ record {
-        answer = read.Read (length kinds) (length starts);
-        reply = read_reply (read.Read (length kinds) (length starts));
+        answer = Ok (record { nodes = length kinds; links = length starts });
+        reply = read_reply (Ok (record { nodes = length kinds; links = length starts }));
         kinds = kinds ++ drop (length kinds) ks;
         packages = take (package_count e (length kinds)) packages ++ drop (package_count e (length kinds)) ps;
         starts = starts ++ drop (length starts) ss;
@@ -115,17 +113,17 @@ module _ (r : Role) (file : CircuitFile) (bytes : T (all (λ b. ltb b 256) file.
     -- so that, with room, writing gives the same bytes back
     pub accepted-writes : (out : List ℕ) → length file.bytes ≤ length out
         → writing r file.edition (kinds_of file) (packages_of file) (starts_of file) (ends_of file) out
-        ≡ record { answer = Written (length file.bytes); reply = write_reply (Written (length file.bytes)); out = file.bytes ++ drop (length file.bytes) out }
+        ≡ record { answer = Ok (length file.bytes); reply = number_reply (Ok (length file.bytes)); out = file.bytes ++ drop (length file.bytes) out }
     unfolding filled
     accepted-writes out room =
         let size : length_of file.edition (length (kinds_of file)) (length (starts_of file)) ≡ length file.bytes = rw (length-kinds file, length-starts file) (sym (accepted r file a).size) in
         writing-filled r file.edition _ _ _ _ out accepted-circuit (omega arith) ∙ rw (size, accepted-file)
 
   -- the same of the tables that the reading call fills
-  pub read-writes : (ks ps ss es out : List ℕ) (n m : ℕ) → (reading r file ks ps ss es).answer ≡ read.Read n m → length file.bytes ≤ length out
+  pub read-writes : (ks ps ss es out : List ℕ) (n m : ℕ) → (reading r file ks ps ss es).answer ≡ Ok (record { nodes = n; links = m }) → length file.bytes ≤ length out
       → let o = reading r file ks ps ss es in
       writing r file.edition (take n o.kinds) (take (package_count file.edition n) o.packages) (take m o.starts) (take m o.ends) out
-      ≡ record { answer = Written (length file.bytes); reply = write_reply (Written (length file.bytes)); out = file.bytes ++ drop (length file.bytes) out }
+      ≡ record { answer = Ok (length file.bytes); reply = number_reply (Ok (length file.bytes)); out = file.bytes ++ drop (length file.bytes) out }
   read-writes ks ps ss es out n m a room =
       let f = reading-accepted r file ks ps ss es n m a in
       let o = reading-filled r file ks ps ss es f.sound f.kinds_fit f.packages_fit f.starts_fit f.ends_fit in

@@ -1,5 +1,5 @@
 -- What the writing call comes to, by cases of the verdict. Assumes nothing.
-use Rattle.std.specs.Prelude.{◌≡◌, ◌&&◌, ◌≤◌, ◌<◌}
+use Rattle.std.specs.Prelude.{◌≡◌, ◌&&◌, ◌≤◌, ◌<◌, Ok, Err}
 use Rattle.base_lists.specs.Kit.{refl, Bool, false, true, cond, not, List, ℕ, T, eqb, eqb→eq, length, eq-eqb, le-ltb, lt-ltb, ltb-false}
 use Rattle.base_lists.proofs.Tests.{not-true-false, both_left, both_right}
 use Rattle.file_format.specs.declared.File.TheVariants.{Neither}
@@ -8,18 +8,17 @@ use Rattle.file_format.specs.declared.Edition.{Edition}
 use Rattle.file_format.specs.declared.Role.{Role}
 use Rattle.file_format.specs.Layout.{package_count, length_of}
 use Rattle.file_format.specs.Reading.{filled}
-use Rattle.file_format.specs.Refusals.{Verdict, accept, refuse, first, link_conditions, link_number, short_table}
-use Rattle.file_format.specs.Reply.{reply}
+use Rattle.file_format.specs.Refusals.{Verdict, accept, refuse, first, link_conditions, link_number, short_table, turned, by_number}
+use Rattle.file_format.specs.Reply.{reply, number_reply}
 use Rattle.file_format.specs.Role.{in_range}
-use Rattle.file_format.proofs.Refusals.{turned, by_number, verdict-number, first-accept, first-refuse, first-parts, first_holds}
+use Rattle.file_format.proofs.Refusals.{verdict-number, first-accept, first-refuse, first-parts, first_holds}
 use Rattle.file_check.specs.Circuit.{circuit_number}
-use Rattle.file_write.specs.declared.WriteAnswer.TheVariants.{Written, Refused}
 use Rattle.file_write.specs.Bytes.{file_bytes}
-use Rattle.file_write.specs.Writing.{packages_given, circuit_conditions, write_conditions, write_answer, writing, write_reply}
+use Rattle.file_write.specs.Writing.{packages_given, circuit_conditions, write_conditions, write_answer, writing}
 
 -- ---- the answer and its verdict
 
-pub answer-written : (size : ℕ) (v : Verdict) (k : ℕ) → write_answer v size ≡ Written k → (v ≡ accept) × (k ≡ size)
+pub answer-written : (size : ℕ) (v : Verdict) (k : ℕ) → write_answer v size ≡ Ok k → (v ≡ accept) × (k ≡ size)
 unfolding write_answer
 answer-written size accept k e = (refl, cc)
 answer-written size (refuse y) k e = (cc, cc)
@@ -69,24 +68,24 @@ sound r e kinds packages starts ends a =
 
 module _ (r : Role) (e : Edition) (kinds packages starts ends out : List ℕ) where
   pub writing-refused : (x : Refusal) → first (circuit_conditions r e kinds packages starts ends) ≡ refuse x
-      → writing r e kinds packages starts ends out ≡ record { answer = Refused x; reply = write_reply (Refused x); out = out }
-  unfolding writing write_conditions write_answer write_reply reply filled
+      → writing r e kinds packages starts ends out ≡ record { answer = Err x; reply = number_reply (Err x); out = out }
+  unfolding writing write_conditions write_answer number_reply reply filled
   writing-refused x q = rw (first-refuse _ _ x q)
 
   module _ (a : first (circuit_conditions r e kinds packages starts ends) ≡ accept) where
     pub writing-short : length out < length_of e (length kinds) (length starts)
-        → writing r e kinds packages starts ends out ≡ record { answer = Refused (record { number = 8; file = Neither }); reply = write_reply (Refused (record { number = 8; file = Neither })); out = out }
-    unfolding writing write_conditions first short_table write_answer write_reply reply filled
+        → writing r e kinds packages starts ends out ≡ record { answer = Err (record { number = 8; file = Neither }); reply = number_reply (Err (record { number = 8; file = Neither })); out = out }
+    unfolding writing write_conditions first short_table write_answer number_reply reply filled
     writing-short h = rw (first-accept _ _ a) (simp (lt-ltb _ _ h))
 
     pub writing-filled : length_of e (length kinds) (length starts) ≤ length out
         → writing r e kinds packages starts ends out
-        ≡ record { answer = Written (length_of e (length kinds) (length starts)); reply = write_reply (Written (length_of e (length kinds) (length starts))); out = filled accept (file_bytes e kinds packages starts ends) out }
-    unfolding writing write_conditions first short_table write_answer write_reply reply
+        ≡ record { answer = Ok (length_of e (length kinds) (length starts)); reply = number_reply (Ok (length_of e (length kinds) (length starts))); out = filled accept (file_bytes e kinds packages starts ends) out }
+    unfolding writing write_conditions first short_table write_answer number_reply reply
     writing-filled h = rw (first-accept _ _ a) (simp (le-ltb _ _ h))
 
   -- an accepted call has room, and no condition on the circuit holds
-  pub writing-accepted : (size : ℕ) → (writing r e kinds packages starts ends out).answer ≡ Written size
+  pub writing-accepted : (size : ℕ) → (writing r e kinds packages starts ends out).answer ≡ Ok size
       → (first (circuit_conditions r e kinds packages starts ends) ≡ accept) × (length_of e (length kinds) (length starts) ≤ length out)
   unfolding writing write_conditions short_table
   writing-accepted size q =

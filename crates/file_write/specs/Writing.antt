@@ -1,15 +1,14 @@
 -- The call that writes a circuit file, whole: its reply and the later content of the bytes lent, from the inputs alone.
-use Rattle.std.specs.Prelude.{◌&&◌, ◌∷◌, ◌++◌}
+use Rattle.std.specs.Prelude.{◌&&◌, ◌∷◌, ◌++◌, Result, Ok, Err}
 use Rattle.base_lists.specs.Kit.{Bool, not, List, [], ℕ, eqb, length}
 use Rattle.file_format.specs.declared.Edition.{Edition}
+use Rattle.file_format.specs.declared.Refusal.{Refusal}
 use Rattle.file_format.specs.declared.Role.{Role}
 use Rattle.file_format.specs.Layout.{package_count, length_of}
 use Rattle.file_format.specs.Reading.{filled}
 use Rattle.file_format.specs.Refusals.{Condition, Verdict, accept, refuse, first, link_conditions, short_table}
 use Rattle.file_format.specs.Reply.{Reply, reply}
 use Rattle.file_format.specs.Role.{in_range, file_of}
-use Rattle.file_write.specs.declared.WriteAnswer.{WriteAnswer}
-use Rattle.file_write.specs.declared.WriteAnswer.TheVariants.{Written, Refused}
 use Rattle.file_write.specs.Bytes.{file_bytes}
 
 -- "Writing the second with as many packages as kinds not given is 3"; the first neither needs nor touches packages
@@ -30,18 +29,13 @@ write_conditions role e kinds packages starts ends lent =
     circuit_conditions role e kinds packages starts ends ++ (short_table (length_of e (length kinds) (length starts)) lent ∷ [])
 
 -- "Writing .. replies with the file's length."
-unfoldable pub write_answer : Verdict → ℕ → WriteAnswer
-write_answer accept size = Written size
-write_answer (refuse x) size = Refused x
+unfoldable pub write_answer : Verdict → ℕ → Result ℕ Refusal
+write_answer accept size = Ok size
+write_answer (refuse x) size = Err x
 
--- number and values of each case of its answer
-unfoldable pub write_reply : WriteAnswer → Reply
-write_reply (Written size) = record { verdict = accept; values = size ∷ [] }
-write_reply (Refused x) = record { verdict = refuse x; values = [] }
-
--- the answer, what it is in document 01's terms, and the bytes lent as the call leaves them
+-- the answer, what it is in document 01's terms (Reply `number_reply`), and the bytes lent as the call leaves them
 pub record WriteOutcome : Type 0 where
-  pub answer : WriteAnswer
+  pub answer : Result ℕ Refusal
   pub reply : Reply
   pub out : List ℕ
 

@@ -4,23 +4,17 @@
 ghost use Rattle.std.specs.Prelude.{[], ◌≡◌, ◌≤◌, length};
 ghost use Rattle.file_format.specs.declared.Edition.TheVariants as editions;
 ghost use Rattle.file_format.specs.Label.{packages_in};
+ghost use Rattle.file_format.specs.Reply.{number_reply};
 ghost use Rattle.file_write.specs.Bytes.{kinds_for, LabelsFit};
-ghost use Rattle.file_write.specs.Writing.{writing, write_reply};
+ghost use Rattle.file_write.specs.Writing.{writing};
 
 mod parts;
 
 use crate::parts::split;
 use file_bytes::put_fields;
-use file_check::circuit_number;
+use file_check::check_circuit;
 use file_format::{Board, Edition, Refusal, Role, TOO_SHORT, package_count};
-use file_role::{length_of, refusal};
-
-// What writing a circuit comes to: the file's length, or why it was turned away.
-#[derive(Clone, Copy)]
-pub enum WriteAnswer {
-    Written(usize),
-    Refused(Refusal),
-}
+use file_role::length_of;
 
 // Writes a circuit's file of an edition in a role to the front of the bytes lent: the file's length; or the refusal,
 // which leaves every byte as it was.
@@ -32,23 +26,20 @@ pub fn write(
     starts: &[u16],
     ends: &[u16],
     out: &mut [u8],
-) -> WriteAnswer
-    ensures { record { answer = result; reply = write_reply result; out = out.new }
+) -> Result<usize, Refusal>
+    ensures { record { answer = result; reply = number_reply result; out = out.new }
         ≡ writing role edition kinds.now packages.now starts.now
         ends.now out.old }
 {
     let n = kinds.len();
-    let number = circuit_number(role, edition, n, packages.len(), starts, ends);
-    if number != 0 {
-        return WriteAnswer::Refused(refusal(role, number));
-    }
+    check_circuit(role, edition, n, packages.len(), starts, ends)?;
     let size = length_of(edition, n, starts.len());
     if out.len() < size {
-        return WriteAnswer::Refused(TOO_SHORT);
+        return Err(TOO_SHORT);
     }
     let p = package_count(edition, n);
     put_fields(kinds, &packages[..p], starts, ends, out);
-    WriteAnswer::Written(size)
+    Ok(size)
 }
 
 // Writes a first-edition file: there are no packages.
@@ -58,8 +49,8 @@ pub fn write_first(
     starts: &[u16],
     ends: &[u16],
     out: &mut [u8],
-) -> WriteAnswer
-    ensures { record { answer = result; reply = write_reply result; out = out.new }
+) -> Result<usize, Refusal>
+    ensures { record { answer = result; reply = number_reply result; out = out.new }
         ≡ writing role editions.First kinds.now [] starts.now ends.now
         out.old }
 {
@@ -76,10 +67,10 @@ fn write_parts(
     starts: &[u16],
     ends: &[u16],
     out: &mut [u8],
-) -> WriteAnswer
+) -> Result<usize, Refusal>
     requires { (length kinds.old ≡ length labels.now) × (length packages.old ≡ length labels.now)
         × LabelsFit edition labels.now }
-    ensures { record { answer = result; reply = write_reply result; out = out.new }
+    ensures { record { answer = result; reply = number_reply result; out = out.new }
         ≡ writing role edition (kinds_for edition labels.now) (packages_in labels.now)
         starts.now ends.now out.old }
 {
@@ -95,9 +86,9 @@ pub fn write_circuit(
     starts: &[u16],
     ends: &[u16],
     out: &mut [u8],
-) -> WriteAnswer
+) -> Result<usize, Refusal>
     requires { (length labels.now ≤ 512) × LabelsFit edition labels.now }
-    ensures { record { answer = result; reply = write_reply result; out = out.new }
+    ensures { record { answer = result; reply = number_reply result; out = out.new }
         ≡ writing role edition (kinds_for edition labels.now) (packages_in labels.now)
         starts.now ends.now out.old }
 {

@@ -8,10 +8,8 @@ pub fn split(labels: &[u32], kinds: &mut [u16], packages: &mut [u16])
     ensures { (kinds.new ≡ kinds_in labels.now)
         × (packages.new ≡ packages_in labels.now) }
 {
-    let mut i = 0;
-    while i < labels.len() {
-        kinds[i] = (labels[i] % 65536) as u16;
-        packages[i] = (labels[i] / 65536) as u16;
-        i += 1;
+    for (i, &label) in labels.iter().enumerate() {
+        kinds[i] = (label % 65536) as u16;
+        packages[i] = (label / 65536) as u16;
     }
 }

@@ -4,7 +4,7 @@
 // the report.
 #![tactic(auto)]
 
-ghost use Rattle.std.specs.Prelude.{◌≡◌, ◌≤◌, length};
+ghost use Rattle.std.specs.Prelude.{◌≡◌, ◌≤◌, length, IfSome};
 ghost use Rattle.input.specs.Reading.{IsPrefixLen};
 ghost use Rattle.report.specs.Lines.{longest_line};
 ghost use Rattle.finder.specs.Run.{report_end, ReportRan};
@@ -15,10 +15,9 @@ use finder_read::{BOARD_BYTES, Files, PATTERN_BYTES, read_files};
 // What is put at a time; a longer report takes further pieces.
 const PIECE_BYTES: usize = 524288;
 
-// How a run ended: the report was handed whole to standard output; or a write failed; or a file cannot be read.
-#[derive(Clone, Copy)]
-enum End {
-    Whole,
+// Why the report was not handed whole to standard output: a write failed; or a file cannot be read.
+#[derive(Clone, Copy, Debug, PartialEq, Eq)]
+enum ReportError {
     Broken,
     NoPattern,
     NoBoard,
@@ -28,21 +27,22 @@ enum End {
 #[derive(Clone, Copy)]
 struct Run {
     files: Files,
-    end: End,
+    end: Result<(), ReportError>,
 }
 
 // How a run ends in which the report was begun.
 #[tactic(auto, unfolding(crate::specs::Run::report_end))]
-fn ended(whole: bool) -> End
+fn ended(whole: bool) -> Result<(), ReportError>
     ensures { result ≡ report_end whole }
 {
     if whole {
-        return End::Whole;
+        return Ok(());
     }
-    End::Broken
+    Err(ReportError::Broken)
 }
 
 // Prints the report of what is held of the two files, where both could be read.
+#[tactic(auto, unfolding(crate::specs::Run::ReportRan))]
 fn report_held(
     rt: &HostRuntime,
     failure: &mut i32,
@@ -51,21 +51,18 @@ fn report_held(
     board: &[u8],
     out: &mut [u8],
     handed: &mut usize,
-) -> End
-    requires prefix_len { IsPrefixLen files.pattern.size pattern.now × IsPrefixLen files.board.size board.now }
+) -> Result<(), ReportError>
+    requires pattern_held { IfSome files.pattern (λ size. IsPrefixLen size pattern.now) }
+    requires board_held { IfSome files.board (λ size. IsPrefixLen size board.now) }
     requires longest_line_in_bounds { (longest_line ≤ length out.old) × (handed.old ≡ 0) }
     ensures { ReportRan pattern.now board.now handed.new files result }
 {
-    let first = files.pattern;
-    let second = files.board;
-    if !first.there {
-        return End::NoPattern;
-    }
-    if !second.there {
-        return End::NoBoard;
-    }
-    let parts = first.size;
-    let nodes = second.size;
+    let Some(parts) = files.pattern else {
+        return Err(ReportError::NoPattern);
+    };
+    let Some(nodes) = files.board else {
+        return Err(ReportError::NoBoard);
+    };
     ended(print_report(rt, failure, &pattern[..parts], &board[..nodes], out, handed))
 }
 
@@ -95,13 +92,12 @@ fn report_files(
     Run { files, end }
 }
 
-// Tells on standard error where the report is not whole.
-fn tell(rt: &HostRuntime, end: End, failure: i32) {
-    match end {
-        End::Whole => {}
-        End::Broken => output::fail(rt, "the report is not whole", failure),
-        End::NoPattern => input::cannot_read(rt, "pattern.cir"),
-        End::NoBoard => input::cannot_read(rt, "board.cir"),
+// Tells on standard error why the report is not whole.
+fn tell(rt: &HostRuntime, error: ReportError, failure: i32) {
+    match error {
+        ReportError::Broken => output::fail(rt, "the report is not whole", failure),
+        ReportError::NoPattern => input::cannot_read(rt, "pattern.cir"),
+        ReportError::NoBoard => input::cannot_read(rt, "board.cir"),
     }
 }
 
@@ -130,6 +126,7 @@ fn main(rt: HostRuntime) {
         &mut out,
         &mut handed,
     );
-    let end = run.end;
-    tell(&rt, end, failure);
+    if let Err(error) = run.end {
+        tell(&rt, error, failure);
+    }
 }

@@ -9,9 +9,8 @@ ghost use Rattle.call_open.specs.Opened.{Opened};
 ghost use Rattle.finder_pieces.specs.Handed.{GoesOn, ReportHanded};
 
 use call_piece::put;
+use file_format::Refusal;
 use file_pair::Pair;
-use output::Output;
-use report_answer::ReportAnswer;
 
 // Hands the bytes that come next to standard output: those of the report's items after the ones that were handed over
 // up to another, and notes how far that is. (An item is a line for each centre, which may be empty, or the last line.)
@@ -28,10 +27,9 @@ fn hand(
     requires { let p = first_edition pattern.now in let b = first_edition board.now in GoesOn p b handed.old next bytes.now }
     ensures { handed.new ≡ cond result next handed.old }
 {
-    let answer = output::write_whole(rt, failure, bytes);
-    let Output::Written(_) = answer else {
+    if output::write_whole(rt, failure, bytes).is_none() {
         return false;
-    };
+    }
     *handed = next;
     true
 }
@@ -43,7 +41,7 @@ pub fn print_pieces(
     failure: &mut i32,
     pattern: &[u8],
     board: &[u8],
-    read: Pair,
+    read: Result<Pair, Refusal>,
     masks: &[u32],
     offsets: &[u16],
     targets: &[u16],
@@ -58,6 +56,7 @@ pub fn print_pieces(
     ensures { let p = first_edition pattern.now in let b = first_edition board.now in ReportHanded p b handed.new result }
 {
     let mut found: u16 = 0;
+    // A loop: how many pieces there are shows only as they are put.
     loop {
         let from = *handed;
         let answer = put(
@@ -72,7 +71,7 @@ pub fn print_pieces(
             found,
             out,
         );
-        let ReportAnswer::Put(part) = answer else {
+        let Ok(part) = answer else {
             return false;
         };
         let size = part.size;

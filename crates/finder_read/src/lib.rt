@@ -2,13 +2,13 @@
 // one.
 #![tactic(auto)]
 
-ghost use Rattle.std.specs.Prelude.{◌≡◌, length};
+ghost use Rattle.std.specs.Prelude.{◌≡◌, length, IfSome};
 ghost use Rattle.input.specs.Reading.{IsPrefixLen};
 ghost use Rattle.finder_read.specs.Cut.{most};
 ghost use Rattle.finder_read.specs.Held.{file_name_of, held_of};
 
 use file_format::{Board, Pattern, Role};
-use input::FileFound;
+use input::ReadError;
 
 // A byte more than the longest file that is accepted in each role: the report of what is read so is the report of the
 // files (finder/proofs/Cut).
@@ -16,44 +16,31 @@ pub const PATTERN_BYTES: usize = 4 + 2 * Pattern::MAX_NODES + 4 * Pattern::MAX_L
 
 pub const BOARD_BYTES: usize = 4 + 2 * Board::MAX_NODES + 4 * Board::MAX_LINKS + 1;
 
-// What is held of a file: whether it could be read, or counts as empty, and how many of its bytes stand at the front of
-// the buffer.
-#[derive(Clone, Copy)]
-pub struct FileHeld {
-    pub there: bool,
-    pub size: usize,
-}
-
-// What is held of both files.
+// What is held of both files: how many bytes of each stand at the front of its buffer, none of an absent one; or None
+// where the file is there and cannot be read.
 #[derive(Clone, Copy)]
 pub struct Files {
-    pub pattern: FileHeld,
-    pub board: FileHeld,
+    pub pattern: Option<usize>,
+    pub board: Option<usize>,
 }
 
-// What was read, where an absent file counts as an empty one.
+// How many bytes were read, where an absent file counts as an empty one.
 #[tactic(auto, unfolding(crate::specs::Held::held_of))]
-fn as_read(found: FileFound) -> FileHeld
+fn as_read(found: Result<usize, ReadError>) -> Option<usize>
     ensures { result ≡ held_of found }
 {
     match found {
-        FileFound::Bytes(size) => FileHeld { there: true, size },
-        FileFound::Absent => FileHeld {
-            there: true,
-            size: 0,
-        },
-        FileFound::Unreadable => FileHeld {
-            there: false,
-            size: 0,
-        },
+        Ok(size) => Some(size),
+        Err(ReadError::Absent) => Some(0),
+        Err(ReadError::Unreadable) => None,
     }
 }
 
 // The bytes of the file in a role, by its name, none where it is absent, in a buffer of a byte more than the longest
 // that is accepted.
-fn load(rt: &HostRuntime, role: Role, name: &str, buf: &mut [u8]) -> FileHeld
+fn load(rt: &HostRuntime, role: Role, name: &str, buf: &mut [u8]) -> Option<usize>
     requires { (name.now ≡ file_name_of role) × (length buf.old ≡ most role) }
-    ensures { IsPrefixLen result.size buf.new }
+    ensures { IfSome result (λ size. IsPrefixLen size buf.new) }
 {
     as_read(input::load(rt, name, buf))
 }
@@ -64,7 +51,8 @@ pub fn read_files(
     pattern: &mut [u8; PATTERN_BYTES],
     board: &mut [u8; BOARD_BYTES],
 ) -> Files
-    ensures { IsPrefixLen result.pattern.size pattern.new × IsPrefixLen result.board.size board.new }
+    ensures pattern_held { IfSome result.pattern (λ size. IsPrefixLen size pattern.new) }
+    ensures board_held { IfSome result.board (λ size. IsPrefixLen size board.new) }
 {
     let first = load(rt, Role::Pattern, "pattern.cir", &mut pattern[..]);
     let second = load(rt, Role::Board, "board.cir", &mut board[..]);

@@ -58,10 +58,8 @@ pub fn follow(
         (meeting set sets.now part.now)) }
 {
     let mut tail = from;
-    let mut i = 0;
-    while i < part.len() {
-        tail = look(part[i], set, sets, d, dist, queue, tail);
-        i += 1;
+    for &v in part {
+        tail = look(v, set, sets, d, dist, queue, tail);
     }
     tail
 }
@@ -122,11 +120,8 @@ pub fn list_beside(
         (state_of marks.old todo.old 0) changed.now) }
 {
     let mut tail = 0;
-    let mut i = 0;
-    while i < changed.len() {
-        let v = changed[i] as usize;
-        tail = wake_beside(offsets, targets, sets, v, marks, todo, tail);
-        i += 1;
+    for &v in changed {
+        tail = wake_beside(offsets, targets, sets, v as usize, marks, todo, tail);
     }
     tail
 }

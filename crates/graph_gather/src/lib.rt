@@ -31,13 +31,10 @@ pub fn keep(numbers: &[u16], x: u16, k: usize, queue: &mut [u16]) -> usize
         ≡ having (numbered numbers.now x) (take k queue.old) }
 {
     let mut kept = 0;
-    let mut i = 0;
-    while i < k {
+    for i in 0..k {
         let v = queue[i];
-        let at = v as usize;
         queue[kept] = v;
-        kept = count_equal(numbers[at], x, kept);
-        i += 1;
+        kept = count_equal(numbers[v as usize], x, kept);
     }
     kept
 }
@@ -50,11 +47,8 @@ fn count_from(numbers: &[u16], x: u16, from: usize, count: usize, nodes: &[u16])
     ensures { result ≡ length (having (numbered numbers.now x) nodes.now) }
 {
     let mut found = count;
-    let mut i = from;
-    while i < nodes.len() {
-        let at = nodes[i] as usize;
-        found = count_equal(numbers[at], x, found);
-        i += 1;
+    for i in from..nodes.len() {
+        found = count_equal(numbers[nodes[i] as usize], x, found);
     }
     found
 }
@@ -85,6 +79,7 @@ pub fn search_until(
     begin(c, dist, queue);
     let mut from = CENTRE;
     let mut count = 1;
+    // A while: how many searches it takes shows only as they go.
     while count < size {
         let wanted = from.tail + (size - count);
         let to = advance(offsets, targets, from, r, wanted, dist, queue);

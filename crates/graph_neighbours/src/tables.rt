@@ -47,8 +47,8 @@ pub fn group_both(
         n,
         ends,
         backward,
-        &mut offsets[513..1026],
-        &mut targets[4096..8192],
+        &mut offsets[FORWARD_OFFSETS..OFFSETS],
+        &mut targets[FORWARD_TARGETS..TARGETS],
     );
 }
 

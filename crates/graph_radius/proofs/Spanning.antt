@@ -1,13 +1,13 @@
 -- The radius by balls: it is the first radius at which every ball has every node, and `far` where there is none; and a circuit is connected
 -- exactly when its radius is not `far`. Assumes nothing.
 use Rattle.std.specs.Prelude.{◌≡◌, ◌≢◌, ◌≤◌, ◌<◌, ◌+◌, ◌^◌}
-use Rattle.base_lists.specs.Kit.{◌∙◌, sym, ap, refl, subst, ap₂, ⊎_elim, false, true, not, List, ℕ, suc, zero, not-suc-le-zero, le_of_suc-le-suc, le_trans, le_of_eq, eq-or-lt_of_le, le_antisymm, pow-suc, add-one, T, eqb, ltb, eqb→eq, not_T, T_not, length, get_or, arith, eq-eqb}
+use Rattle.base_lists.specs.Kit.{◌∙◌, sym, ap, refl, subst, ap₂, ⊎_elim, false, true, not, List, ℕ, suc, zero, not-suc-le-zero, le_of_suc-le-suc, le_trans, le_of_eq, eq-or-lt_of_le, le_antisymm, pow-suc, add-one, T, eqb, ltb, eqb→eq, not_T, T_not, length, arith, eq-eqb}
 use native.Mathlib.Decide.{dec_lt}
 use Rattle.base_bits.specs.Bits.{bit, number_of}
 use Rattle.base_bits.proofs.Digits.{same-bits-below}
 use Rattle.base_bits.proofs.Numbers.{bit-number, number_lt}
 use Rattle.base_lists.specs.List.{all, tabulate, maximum}
-use Rattle.base_lists.proofs.Tests.{T_true, T_false, true-T, false-T, all-at, at_all, same_test, decide}
+use Rattle.base_lists.proofs.Tests.{T_true, true-T, false-T, all-at, at_all, same_test, decide}
 use Rattle.graph.specs.Circuit.{graph_of}
 use Rattle.graph.specs.Graph.{Connected}
 use Rattle.graph.specs.Search.{far, inside, ball, connected, radius}
@@ -23,14 +23,6 @@ pub every-node : (n : ℕ) → every_node n + 1 ≡ 2 ^ n
 unfolding every_node number_of
 every-node zero = refl
 every-node (suc n) = rw pow-suc (omega (arith, every-node n))
-
-pub is-spanning : (full : ℕ) (sets : List ℕ) → ((i : ℕ) → i < length sets → get_or sets i 0 ≡ full) → spanning full sets ≡ true
-unfolding spanning
-is-spanning full sets f = T_true (at_all (λ x. eqb x full) sets (λ i h. true-T (eq-eqb _ full (f i h))))
-
-pub not-spanning : (full : ℕ) (sets : List ℕ) (i : ℕ) → get_or sets i 0 ≢ full → i < length sets → spanning full sets ≡ false
-unfolding spanning
-not-spanning full sets i f h = T_false (λ t. f (eqb→eq _ full (all-at (λ x. eqb x full) sets t i h)))
 
 -- ---- every ball has every node
 

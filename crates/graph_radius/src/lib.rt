@@ -22,10 +22,8 @@ fn singles(sets: &mut [u32])
     requires { length sets.old ≤ 32 }
     ensures { sets.new ≡ tabulate (length sets.old) (λ u. 2 ^ u) }
 {
-    let mut u = 0;
-    while u < sets.len() {
-        sets[u] = single(u as u32);
-        u += 1;
+    for (u, set) in sets.iter_mut().enumerate() {
+        *set = single(u as u32);
     }
 }
 
@@ -35,7 +33,7 @@ fn join(sets: &mut [u32], u: u16, v: u16)
     ensures { sets.new ≡ with_node sets.old u v }
 {
     let at = u as usize;
-    sets[at] = sets[at] | single(v as u32);
+    sets[at] |= single(v as u32);
 }
 
 // The balls at radius 1, one for each entry of the table: the node, and what a link joins it to.
@@ -47,11 +45,9 @@ fn neighbourhoods(starts: &[u16], ends: &[u16], near: &mut [u32])
         ≡ balls (length near.old) starts.now ends.now 1 }
 {
     singles(near);
-    let mut i = 0;
-    while i < starts.len() {
+    for i in 0..starts.len() {
         join(near, starts[i], ends[i]);
         join(near, ends[i], starts[i]);
-        i += 1;
     }
 }
 
@@ -61,10 +57,8 @@ fn grow(near: &[u32], old: &[u32], new: &mut [u32])
     requires below { Below (2 ^ length near.now) near.now }
     ensures { new.new ≡ grown near.now old.now }
 {
-    let mut u = 0;
-    while u < near.len() {
-        new[u] = union_of(old, near[u]);
-        u += 1;
+    for (u, set) in new.iter_mut().enumerate() {
+        *set = union_of(old, near[u]);
     }
 }
 
@@ -72,14 +66,7 @@ fn grow(near: &[u32], old: &[u32], new: &mut [u32])
 fn all_full(sets: &[u32], full: u32) -> bool
     ensures { result ≡ spanning full sets.now }
 {
-    let mut u = 0;
-    while u < sets.len() {
-        if sets[u] != full {
-            return false;
-        }
-        u += 1;
-    }
-    true
+    sets.iter().all(|set| *set == full)
 }
 
 // The first radius at which every ball has every node, from the balls at radius 1 and those at radius 0; 65535 where
@@ -92,6 +79,7 @@ fn first_spanning(near: &[u32], old: &mut [u32], new: &mut [u32]) -> u16
     let n = near.len();
     let full = every_node(n);
     let mut k: u16 = 0;
+    // A while: a turn has two rounds, one for each table, and returns after either.
     while k as usize <= n {
         if all_full(old, full) {
             return k;
@@ -120,7 +108,7 @@ fn measure(starts: &[u16], ends: &[u16], near: &mut [u32], old: &mut [u32], new:
 }
 
 // The radius of a circuit of at most 32 nodes: the largest distance between two of them, 65535 where two are not
-// joined.
+// joined. (A number and no Option: it is a distance, and `radius` of graph's specs/Search is this number.)
 pub fn radius(n: usize, starts: &[u16], ends: &[u16]) -> u16
     requires starts_len { (length starts.now ≡ length ends.now) × (n ≤ 32) }
     requires t { T (all (λ v. ltb v n) starts.now) × T (all (λ v. ltb v n) ends.now) }

@@ -10,7 +10,8 @@ ghost use Rattle.graph.specs.Net.{Net};
 ghost use Rattle.graph.specs.Search.{far};
 ghost use Rattle.graph_search.specs.Until.{Standing, Advanced};
 
-use graph::{UNREACHED, fill};
+use base_lists::fill;
+use graph::UNREACHED;
 use graph_neighbours::neighbours::{Direction, neighbours_in};
 
 // Looks at node v from a node at distance d - 1: where v is not reached yet, it is now, at distance d, and joins the
@@ -41,10 +42,8 @@ fn scan(part: &[u16], d: u16, dist: &mut [u16], queue: &mut [u16], from: usize) 
         (scan d (state_of dist.old queue.old from) part.now) }
 {
     let mut tail = from;
-    let mut i = 0;
-    while i < part.len() {
-        tail = visit(part[i], d, dist, queue, tail);
-        i += 1;
+    for &v in part {
+        tail = visit(v, d, dist, queue, tail);
     }
     tail
 }
@@ -99,10 +98,7 @@ pub const ALL: usize = 65536;
 pub fn ended(level: usize, tail: usize, depth: u16, r: u16) -> bool
     ensures { result ≡ (eqb level tail || eqb depth r) }
 {
-    if level == tail {
-        return true;
-    }
-    depth == r
+    level == tail || depth == r
 }
 
 // Goes on with a search as far as distance r, level by level, and stops as soon as it has reached `size` nodes.
@@ -127,6 +123,7 @@ pub fn advance(
     let mut level = from.level;
     let mut tail = from.tail;
     let mut depth = from.depth;
+    // A while: how many nodes there are to look at is known only as they are reached.
     while tail < size {
         if looked == level {
             if ended(level, tail, depth, r) {

@@ -1,5 +1,5 @@
 -- The promises of a session's calls, as a host program sees them. Assumes nothing.
-use Rattle.std.specs.Prelude.{◌≡◌, ◌∷◌}
+use Rattle.std.specs.Prelude.{◌≡◌, ◌∷◌, Result}
 use Rattle.base_lists.specs.Kit.{◌∙◌, sym, ap, refl, ap₂, List, [], ℕ, length}
 use Rattle.graph.specs.Circuit.{circuit_graph}
 use Rattle.simulation.specs.Simulation.{Largest}
@@ -13,8 +13,7 @@ use Rattle.file_pair.specs.Pair.{pair_conditions}
 use Rattle.file_format.specs.Reply as files
 use Rattle.table.specs.Host.{KindsMatch}
 use Rattle.table.specs.Row.{InTable}
-use Rattle.call_session.specs.declared.OpenAnswer.{OpenAnswer}
-use Rattle.call_session.specs.Call.{open_conditions, open_verdict, OpenPromise}
+use Rattle.call_session.specs.Call.{open_conditions, OpenPromise}
 use Rattle.session.specs.Machine.{Machine, fresh, replies, machine_after, board_left, machine_table}
 use Rattle.session.specs.State.{State, state, Holds}
 use Rattle.session.specs.Tables.{CutMade, cuts_answered, cuts_tables, ReadMade}
@@ -25,8 +24,8 @@ use Rattle.heronditch_reply.specs.Replies.{slots, verdict_number}
 use Rattle.heronditch.specs.Session.{HostOpen, HostCut, HostReadOut, HostCuts, host_replies}
 
 pub host-open :
-    {pattern board : CircuitFile} {before after : State} (answer : OpenAnswer) {r : HostReply} → OpenPromise pattern board before (open_verdict answer) after →
-    r ≡ slots (files.reply (open_verdict answer) []) → HostOpen pattern board before r after
+    {pattern board : CircuitFile} {before after : State} {A : Type 0} (answer : Result A Refusal) {r : HostReply} →
+    OpenPromise pattern board before (files.verdict_of answer) after → r ≡ slots (files.reply (files.verdict_of answer) []) → HostOpen pattern board before r after
 host-open answer p e =
     record {
       replied = e ∙ ap (λ (v : Verdict). slots (files.reply v [])) p.replied;

@@ -14,7 +14,9 @@ use Rattle.barring.specs.Outcome.{BarOutcome}
 use Rattle.call_merge.specs.Call.{MergeOutcome}
 use Rattle.call_test_board.specs.Call.{TestBoardOutcome}
 use Rattle.report_answer.specs.Call.{ReportOutcome}
-use Rattle.call_shelf.specs.declared.compare.CompareAnswer.{CompareAnswer}
+use Rattle.std.specs.Prelude.{Result}
+use Rattle.call_shelf.specs.declared.compare.FileRefusal.{FileRefusal}
+use Rattle.std.specs.declared.cmp.Ordering.{Ordering}
 use Rattle.call_shelf.specs.Compare.{compare_reply}
 use Rattle.call_shelf.specs.Shelf.{ShelfOutcome}
 use Rattle.heronditch_reply.specs.declared.HostReply.{HostReply}
@@ -94,7 +96,7 @@ unfoldable pub host_report : ReportOutcome → HostReport
 host_report o = record { reply = pieced o.reply; out = o.out }
 
 -- which of the two files is meant, and the order found
-unfoldable pub host_compare : CompareAnswer → Comparison
+unfoldable pub host_compare : Result Ordering FileRefusal → Comparison
 host_compare answer =
     let c = compare_reply answer in
     record { number = verdict_number c.verdict; file = meant_file c.verdict; which = c.which; order = c.order }

@@ -1,45 +1,11 @@
 // A session: cutting links while searching. It lives in five tables of fixed size that are lent to each call;
 // library/host.c has them in one struct.
-ghost use Rattle.std.specs.Prelude.{[], ◌≡◌};
-ghost use Rattle.call_session.specs.Call.{open_verdict};
-ghost use Rattle.file_format.specs.Reply.{reply};
-ghost use Rattle.heronditch_reply.specs.Replies.{slots};
 ghost use Rattle.heronditch_told.specs.Told.{told};
 ghost use Rattle.heronditch.specs.Session.{HostOpen, HostCut, HostReadOut};
 ghost use Rattle.session.specs.State.{state};
-ghost use Rattle.session_cut.specs.Cut.{cut_verdict, out_reply};
 
-use call_session::OpenAnswer;
-use heronditch_reply::{HostReply, accepted, refused};
+use heronditch_reply::{HostReply, of_number, of_verdict};
 use heronditch_told::editions_of;
-use session_cut::{CutAnswer, OutAnswer};
-
-fn of_open(answer: OpenAnswer) -> HostReply
-    ensures { result ≡ slots (reply (open_verdict answer) []) }
-{
-    match answer {
-        OpenAnswer::Open => accepted(0, 0),
-        OpenAnswer::Refused(x) => refused(x),
-    }
-}
-
-fn of_cut(answer: CutAnswer) -> HostReply
-    ensures { result ≡ slots (reply (cut_verdict answer) []) }
-{
-    match answer {
-        CutAnswer::Cut => accepted(0, 0),
-        CutAnswer::Refused(x) => refused(x),
-    }
-}
-
-fn of_out(answer: OutAnswer) -> HostReply
-    ensures { result ≡ slots (out_reply answer) }
-{
-    match answer {
-        OutAnswer::Table(n) => accepted(n, 0),
-        OutAnswer::Refused(x) => refused(x),
-    }
-}
 
 // Opens a session on a pattern and a board: all links are left. Refused as the whole-board call is, but for 8.
 #[unsafe(no_mangle)]
@@ -61,7 +27,7 @@ pub extern "C" fn heronditch_session_open(
         (state fixed.new offsets.new numbers.new ends.new
         sets.new) }
 {
-    of_open(call_session::open(
+    of_verdict(call_session::open(
         editions_of(pattern_edition, board_edition),
         pattern,
         board,
@@ -88,7 +54,7 @@ pub extern "C" fn heronditch_session_cut(
         ends.old sets.old) link result
         (state fixed.now offsets.now numbers.now ends.new sets.new) }
 {
-    of_cut(session_cut::cut(
+    of_verdict(session_cut::cut(
         &fixed[..],
         &offsets[..],
         &numbers[..],
@@ -107,5 +73,5 @@ pub extern "C" fn heronditch_session_table(
 ) -> HostReply
     ensures { HostReadOut fixed.now sets.now table.old result table.new }
 {
-    of_out(session_cut::read_out(&fixed[..], &sets[..], table))
+    of_number(session_cut::read_out(&fixed[..], &sets[..], table))
 }

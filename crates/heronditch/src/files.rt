@@ -12,9 +12,9 @@ ghost use Rattle.heronditch.specs.Host.{host_test_board};
 ghost use Rattle.heronditch_reply.specs.Replies.{slots, host_neighbours};
 ghost use Rattle.heronditch_told.specs.Told.{told, edition_of, role_of, direction_of, as_role};
 
-use crate::replies::{of_ball, of_convert, of_merge, of_radius, of_test_board, of_write};
+use crate::replies::of_merge;
 use graph_neighbours::neighbours::neighbours;
-use heronditch_reply::{HostReply, copy_out, of_read};
+use heronditch_reply::{HostReply, copy_out, of_number, of_read};
 use heronditch_told::{as_role, direction_of, edition_of, role_of};
 
 // Reads a file in a role: N kinds, in the second edition N packages, M link starts and M link ends. Replies with N and
@@ -59,7 +59,7 @@ pub extern "C" fn heronditch_write(
         ≡ host_write (writing (as_role (role_of role)) (edition_of edition) kinds.now packages.now
         starts.now ends.now out.old) }
 {
-    of_write(file_write::write(
+    of_number(file_write::write(
         as_role(role_of(role)),
         edition_of(edition),
         kinds,
@@ -83,7 +83,7 @@ pub extern "C" fn heronditch_convert(
         ≡ host_convert (converting (as_role (role_of role)) (edition_of to_edition) (told file.now edition)
         out.old) }
 {
-    of_convert(call_convert_file::convert(
+    of_number(call_convert_file::convert(
         as_role(role_of(role)),
         edition_of(edition),
         edition_of(to_edition),
@@ -104,7 +104,7 @@ pub extern "C" fn heronditch_test_board(
     ensures { record { reply = result; out = out.new }
         ≡ host_test_board (making_test_board seed n m k out.old) }
 {
-    of_test_board(call_test_board::test_board(seed, n, m, k, out))
+    of_number(call_test_board::test_board(seed, n, m, k, out))
 }
 
 // Looks up what a node drives, or what drives it: a stretch of the forward or of the backward table, copied to the
@@ -139,7 +139,7 @@ pub extern "C" fn heronditch_neighbours<'a>(
 pub extern "C" fn heronditch_radius(pattern: &[u8], pattern_edition: u32) -> HostReply
     ensures { result ≡ slots (radius_call (told pattern.now pattern_edition)) }
 {
-    of_radius(call_distance::radius(edition_of(pattern_edition), pattern))
+    of_number(call_distance::radius(edition_of(pattern_edition), pattern))
 }
 
 // Measures the ball around a node of the board: each node's distance from the centre, 65,535 outside the ball. Replies
@@ -155,7 +155,7 @@ pub extern "C" fn heronditch_ball(
     ensures { record { reply = result; out = out.new }
         ≡ host_ball (ball_call (told board.now board_edition) centre radius out.old) }
 {
-    of_ball(call_distance::ball(edition_of(board_edition), board, centre, radius, out))
+    of_number(call_distance::ball(edition_of(board_edition), board, centre, radius, out))
 }
 
 // Merges the parts of a pattern that match each other: each part's class, and the merged pattern's file, of the

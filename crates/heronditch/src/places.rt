@@ -11,10 +11,9 @@ ghost use Rattle.heronditch.specs.Host.{placed_as, host_place, host_bar, host_re
 ghost use Rattle.heronditch_reply.specs.Replies.{slots};
 ghost use Rattle.heronditch_told.specs.Told.{told};
 
-use crate::replies::{of_bar, of_check, of_place, of_report};
-use call_decide::Reach;
+use crate::replies::{of_check, of_place, of_report};
 use call_place::Question;
-use heronditch_reply::{Counted, HostReply, Piece};
+use heronditch_reply::{Counted, HostReply, Piece, of_number};
 use heronditch_told::{editions_of, first_edition};
 
 // Finds the pattern around a node of the board, at the pattern's radius: the place's nodes and links, its table, and
@@ -40,7 +39,7 @@ pub extern "C" fn heronditch_place_editions(
     let asked = Question {
         centre,
         editions: editions_of(pattern_edition, board_edition),
-        reach: Reach::Own,
+        reach: None,
     };
     of_place(call_place::place(asked, pattern, board, nodes, link_bytes, table, distances))
 }
@@ -68,7 +67,7 @@ pub extern "C" fn heronditch_place_within_editions(
     let asked = Question {
         centre,
         editions: editions_of(pattern_edition, board_edition),
-        reach: Reach::Given(radius),
+        reach: Some(radius),
     };
     of_place(call_place::place(asked, pattern, board, nodes, link_bytes, table, distances))
 }
@@ -161,7 +160,7 @@ pub extern "C" fn heronditch_bar(
         ≡ host_bar (bar_call (told pattern.now pattern_edition) (told board.now board_edition)
         centre out.old) }
 {
-    of_bar(call_barring::bar(
+    of_number(call_barring::bar(
         editions_of(pattern_edition, board_edition),
         pattern,
         board,

@@ -1,85 +1,38 @@
-// What each call answers, as a reply of numbers.
+// What the calls answer, as replies of numbers, where an answer has more than one number.
 ghost use Rattle.std.specs.Prelude.{◌≡◌};
 ghost use Rattle.call_check.specs.Call.{check_reply};
-ghost use Rattle.call_convert.specs.Call.{convert_reply};
-ghost use Rattle.call_distance.specs.Calls.{radius_reply, ball_reply};
-ghost use Rattle.file_write.specs.Writing.{write_reply};
 ghost use Rattle.call_match.specs.Call.{reply_of};
 ghost use Rattle.place.specs.Outcome.{place_reply};
-ghost use Rattle.barring.specs.Outcome.{bar_reply};
 ghost use Rattle.call_merge.specs.Call.{merge_reply};
-ghost use Rattle.call_test_board.specs.Call.{test_board_reply};
 ghost use Rattle.report_answer.specs.Call.{report_reply};
 ghost use Rattle.heronditch_reply.specs.Replies.{slots, counted, pieced};
 
-use barring::BarAnswer;
-use call_check::CheckAnswer;
-use call_convert::ConvertAnswer;
-use call_distance::{BallAnswer, RadiusAnswer};
-use call_match::TableAnswer;
-use call_merge::MergeAnswer;
-use call_test_board::TestBoardAnswer;
-use file_write::WriteAnswer;
+use file_format::Refusal;
 use heronditch_reply::{
     Counted, HostReply, Piece, accepted, put_piece, refused, refused_piece, refused_with,
     with_counts,
 };
-use place::PlaceAnswer;
-use report_answer::ReportAnswer;
+use merge_file::Merged;
+use place::NoPlace;
+use report_pieces::PutPiece;
 use table::Counts;
 
-pub fn of_write(answer: WriteAnswer) -> HostReply
-    ensures { result ≡ slots (write_reply answer) }
-{
-    match answer {
-        WriteAnswer::Written(size) => accepted(size, 0),
-        WriteAnswer::Refused(x) => refused(x),
-    }
-}
-
-pub fn of_convert(answer: ConvertAnswer) -> HostReply
-    ensures { result ≡ slots (convert_reply answer) }
-{
-    match answer {
-        ConvertAnswer::Converted(size) => accepted(size, 0),
-        ConvertAnswer::Refused(x) => refused(x),
-    }
-}
-
-pub fn of_radius(answer: RadiusAnswer) -> HostReply
-    ensures { result ≡ slots (radius_reply answer) }
-{
-    match answer {
-        RadiusAnswer::Radius(d) => accepted(d, 0),
-        RadiusAnswer::Refused(x) => refused(x),
-    }
-}
-
-pub fn of_ball(answer: BallAnswer) -> HostReply
-    ensures { result ≡ slots (ball_reply answer) }
-{
-    match answer {
-        BallAnswer::Ball(n) => accepted(n, 0),
-        BallAnswer::Refused(x) => refused(x),
-    }
-}
-
-pub fn of_check(answer: CheckAnswer) -> HostReply
+pub fn of_check(answer: Result<bool, Refusal>) -> HostReply
     ensures { result ≡ slots (check_reply answer) }
 {
     match answer {
-        CheckAnswer::Yes => accepted(1, 0),
-        CheckAnswer::No => accepted(0, 0),
-        CheckAnswer::Refused(x) => refused(x),
+        Ok(true) => accepted(1, 0),
+        Ok(false) => accepted(0, 0),
+        Err(x) => refused(x),
     }
 }
 
-pub fn of_match(answer: TableAnswer) -> Counted
+pub fn of_match(answer: Result<Counts, Refusal>) -> Counted
     ensures { result ≡ counted (reply_of answer) }
 {
     match answer {
-        TableAnswer::Matched(k) => with_counts(0, 0, k),
-        TableAnswer::Refused(x) => refused_with(
+        Ok(k) => with_counts(0, 0, k),
+        Err(x) => refused_with(
             x,
             Counts {
                 started: 0,
@@ -91,47 +44,29 @@ pub fn of_match(answer: TableAnswer) -> Counted
     }
 }
 
-pub fn of_place(answer: PlaceAnswer) -> Counted
+pub fn of_place(answer: Result<Counts, NoPlace>) -> Counted
     ensures { result ≡ counted (place_reply answer) }
 {
     match answer {
-        PlaceAnswer::Placed(k) => with_counts(0, 0, k),
-        PlaceAnswer::Refused(x, k) => refused_with(x, k),
+        Ok(k) => with_counts(0, 0, k),
+        Err(none) => refused_with(none.refusal, none.counts),
     }
 }
 
-pub fn of_bar(answer: BarAnswer) -> HostReply
-    ensures { result ≡ slots (bar_reply answer) }
-{
-    match answer {
-        BarAnswer::Kept(k) => accepted(k, 0),
-        BarAnswer::Refused(x) => refused(x),
-    }
-}
-
-pub fn of_merge(answer: MergeAnswer) -> HostReply
+pub fn of_merge(answer: Result<Merged, Refusal>) -> HostReply
     ensures { result ≡ slots (merge_reply answer) }
 {
     match answer {
-        MergeAnswer::Merged(count, size) => accepted(count, size),
-        MergeAnswer::Refused(x) => refused(x),
+        Ok(made) => accepted(made.classes, made.size),
+        Err(x) => refused(x),
     }
 }
 
-pub fn of_test_board(answer: TestBoardAnswer) -> HostReply
-    ensures { result ≡ slots (test_board_reply answer) }
-{
-    match answer {
-        TestBoardAnswer::Made(size) => accepted(size, 0),
-        TestBoardAnswer::Refused(x) => refused(x),
-    }
-}
-
-pub fn of_report(answer: ReportAnswer) -> Piece
+pub fn of_report(answer: Result<PutPiece, Refusal>) -> Piece
     ensures { result ≡ pieced (report_reply answer) }
 {
     match answer {
-        ReportAnswer::Put(part) => put_piece(part.next, part.found, part.size),
-        ReportAnswer::Refused(x) => refused_piece(x),
+        Ok(part) => put_piece(part.next, part.found, part.size),
+        Err(x) => refused_piece(x),
     }
 }

@@ -1,14 +1,12 @@
 // The comparison of two second-edition patterns, and a shelf of them.
 ghost use Rattle.std.specs.Prelude.{◌≡◌};
 ghost use Rattle.call_shelf.specs.Compare.{which_number, order_number, comparing};
-ghost use Rattle.call_shelf.specs.Shelf.{shelf_reply, shelving};
+ghost use Rattle.call_shelf.specs.Shelf.{shelving};
 ghost use Rattle.heronditch.specs.Host.{host_compare, host_shelf};
-ghost use Rattle.heronditch_reply.specs.Replies.{slots};
 
-use call_shelf::ShelfAnswer;
-use call_shelf::compare::{CompareAnswer, Which};
-use heronditch_reply::{HostReply, accepted, refused};
-use order::Order;
+use call_shelf::compare::{FileRefusal, Which};
+use heronditch_reply::{HostReply, of_number, refused};
+use std::cmp::Ordering;
 
 // The same as a reply without values, with which of the two files is meant (1 the first, 2 the second) and the order
 // found (1 less, 2 equal, 3 greater).
@@ -21,7 +19,7 @@ pub struct Comparison {
     pub order: u32,
 }
 
-// The number that stands for one of two files.
+// The number that stands for one of two files. (No `From` here and below: the enums are other crates'.)
 fn which_number(which: Which) -> u32
     ensures { result ≡ which_number which }
 {
@@ -32,44 +30,35 @@ fn which_number(which: Which) -> u32
 }
 
 // The number that stands for an order.
-fn order_number(order: Order) -> u32
+fn order_number(order: Ordering) -> u32
     ensures { result ≡ order_number order }
 {
     match order {
-        Order::Less => 1,
-        Order::Equal => 2,
-        Order::Greater => 3,
+        Ordering::Less => 1,
+        Ordering::Equal => 2,
+        Ordering::Greater => 3,
     }
 }
 
-fn of_compare(answer: CompareAnswer) -> Comparison
+fn of_compare(answer: Result<Ordering, FileRefusal>) -> Comparison
     ensures { result ≡ host_compare answer }
 {
     match answer {
-        CompareAnswer::Compared(order) => Comparison {
+        Ok(order) => Comparison {
             number: 0,
             file: 0,
             which: 0,
             order: order_number(order),
         },
-        CompareAnswer::Refused(x, which) => {
-            let reply = refused(x);
+        Err(x) => {
+            let reply = refused(x.refusal);
             Comparison {
                 number: reply.number,
                 file: reply.file,
-                which: which_number(which),
+                which: which_number(x.which),
                 order: 0,
             }
         }
-    }
-}
-
-fn of_shelf(answer: ShelfAnswer) -> HostReply
-    ensures { result ≡ slots (shelf_reply answer) }
-{
-    match answer {
-        ShelfAnswer::Ordered(count) => accepted(count, 0),
-        ShelfAnswer::Refused(x) => refused(x),
     }
 }
 
@@ -88,5 +77,5 @@ pub extern "C" fn heronditch_shelf(bytes: &[u8], lengths: &[u32], order: &mut [u
     ensures { record { reply = result; out = order.new } ≡ host_shelf
         (shelving bytes.now lengths.now order.old) }
 {
-    of_shelf(call_shelf::shelf(bytes, lengths, order))
+    of_number(call_shelf::shelf(bytes, lengths, order))
 }

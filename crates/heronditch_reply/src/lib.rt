@@ -1,12 +1,12 @@
-// Replies as a host program sees them: structs of numbers, in place of the enums.
+// Replies as a host program sees them: structs of numbers, in place of the results.
 #![tactic(auto)]
 
-ghost use Rattle.std.specs.Prelude.{◌≡◌};
-ghost use Rattle.file_format.specs.Reply.{read_reply};
+ghost use Rattle.std.specs.Prelude.{◌≡◌, []};
+ghost use Rattle.file_format.specs.Reply.{reply, verdict_of, read_reply, number_reply};
 ghost use Rattle.heronditch_reply.specs.Replies.{file_number, slots, counted_as, host_neighbours};
 
-use file_format::{File, ReadAnswer, Refusal, TOO_SHORT};
-use graph::copy;
+use base_lists::copy;
+use file_format::{File, Refusal, Size, TOO_SHORT};
 use table::Counts;
 
 // Number 0 for acceptance or the refusal's number; the file that it means (0 neither, 1 pattern, 2 board); the values
@@ -44,7 +44,7 @@ pub struct Piece {
     pub size: usize,
 }
 
-// The number that stands for a file.
+// The number that stands for a file. (A function and no `From`: neither `File` nor `u32` is this crate's.)
 fn file_number(file: File) -> u32
     ensures { result ≡ file_number file }
 {
@@ -78,12 +78,33 @@ pub fn refused(x: Refusal) -> HostReply
     }
 }
 
-pub fn of_read(answer: ReadAnswer) -> HostReply
+// An answer without values.
+pub fn of_verdict(answer: Result<(), Refusal>) -> HostReply
+    ensures { result ≡ slots (reply (verdict_of answer) []) }
+{
+    match answer {
+        Ok(()) => accepted(0, 0),
+        Err(x) => refused(x),
+    }
+}
+
+// An answer with one number.
+pub fn of_number(answer: Result<usize, Refusal>) -> HostReply
+    ensures { result ≡ slots (number_reply answer) }
+{
+    match answer {
+        Ok(number) => accepted(number, 0),
+        Err(x) => refused(x),
+    }
+}
+
+// What reading a file comes to.
+pub fn of_read(answer: Result<Size, Refusal>) -> HostReply
     ensures { result ≡ slots (read_reply answer) }
 {
     match answer {
-        ReadAnswer::Read(n, m) => accepted(n, m),
-        ReadAnswer::Refused(x) => refused(x),
+        Ok(size) => accepted(size.nodes, size.links),
+        Err(x) => refused(x),
     }
 }
 

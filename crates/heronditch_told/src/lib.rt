@@ -8,6 +8,8 @@ ghost use Rattle.heronditch_told.specs.Told.{edition_of, is_third, role_of, as_r
 use file_format::{Edition, Editions, Role};
 use graph_neighbours::neighbours::Direction;
 
+// Functions and no `From` for what a number stands for: editions and directions are other crates' types.
+
 // The edition that a number stands for.
 pub fn edition_of(number: u32) -> Edition
     ensures { result ≡ edition_of number }
@@ -51,7 +53,7 @@ pub enum FileRole {
     Board,
 }
 
-// The role by which a file is read and written.
+// The role by which a file is read and written. (A function and no `From`: the promises name it, docs/PROMISES.md.)
 pub fn as_role(told: FileRole) -> Role
     ensures { result ≡ as_role told }
 {

@@ -12,11 +12,9 @@ use std::io;
 use std::io::Read;
 use std::rt::Env;
 
-// What became of reading a file: so many of its bytes stand at the front of the buffer; or there is no such name; or it
-// cannot be read.
-#[derive(Clone, Copy)]
-pub enum FileFound {
-    Bytes(usize),
+// Why a file was not read: there is no such name, or it cannot be read.
+#[derive(Clone, Copy, Debug, PartialEq, Eq)]
+pub enum ReadError {
     Absent,
     Unreadable,
 }
@@ -61,26 +59,26 @@ fn absent(error: i32) -> bool
     false
 }
 
-// What became of a file that was not opened, for this error.
+// Why a file was not read that was not opened, for this error.
 #[tactic(auto, unfolding(crate::specs::Reading::unopened_of))]
-fn unopened(error: i32) -> FileFound
+fn unopened(error: i32) -> ReadError
     ensures { result ≡ unopened_of error }
 {
     if absent(error) {
-        return FileFound::Absent;
+        return ReadError::Absent;
     }
-    FileFound::Unreadable
+    ReadError::Unreadable
 }
 
 // What became of an open file whose reading stopped after so many bytes, ahead of the buffer's end, and of which one
 // read more answered this: no byte is the file's end, and anything else a read that failed.
 #[tactic(auto, unfolding(crate::specs::Reading::ended_of, crate::specs::Reading::is_end))]
-fn ended(size: usize, more: &io::Result<usize>) -> FileFound
+fn ended(size: usize, more: &io::Result<usize>) -> Result<usize, ReadError>
     ensures { result ≡ ended_of size more.now }
 {
     match more {
-        Ok(0) => FileFound::Bytes(size),
-        _ => FileFound::Unreadable,
+        Ok(0) => Ok(size),
+        _ => Err(ReadError::Unreadable),
     }
 }
 
@@ -93,11 +91,11 @@ fn read_more(file: &mut File, more: &mut [u8]) -> io::Result<usize>
 
 // What became of an open file of which so many bytes were read, to where there is this much room: a read that failed is
 // told from the end by one read more. It is not absent, and be it empty; and where the buffer is full, it was read.
-fn outcome(file: &mut File, size: usize, room: usize) -> FileFound
+fn outcome(file: &mut File, size: usize, room: usize) -> Result<usize, ReadError>
     ensures { Tells size room result }
 {
     if size == room {
-        return FileFound::Bytes(size);
+        return Ok(size);
     }
     let mut more = [0u8; 1];
     ended(size, &read_more(file, &mut more))
@@ -108,6 +106,7 @@ fn read_full(file: &mut File, buf: &mut [u8]) -> usize
     ensures { result ≤ length buf.new }
 {
     let mut done: usize = 0;
+    // A while: a read takes as many bytes as it finds.
     while done < buf.len() {
         match file.read(&mut buf[done..]) {
             Ok(0) => return done,
@@ -119,7 +118,7 @@ fn read_full(file: &mut File, buf: &mut [u8]) -> usize
 }
 
 // Reads from an open file until the buffer is full or the file ends.
-fn read_open(mut file: File, buf: &mut [u8]) -> FileFound
+fn read_open(mut file: File, buf: &mut [u8]) -> Result<usize, ReadError>
     ensures { Within (length buf.new) result }
 {
     let size = read_full(&mut file, buf);
@@ -134,14 +133,14 @@ fn error_of(opened: &io::Result<File>) -> i32 {
     }
 }
 
-// The bytes of a file by its name.
+// The bytes of a file by its name: so many of them stand at the front of the buffer.
 #[tactic(auto, using(crate::proofs::Reading::open_ok))]
-pub fn load(rt: &HostRuntime, name: &str, buf: &mut [u8]) -> FileFound
+pub fn load(rt: &HostRuntime, name: &str, buf: &mut [u8]) -> Result<usize, ReadError>
     ensures { Within (length buf.new) result }
 {
     let opened = File::open(rt, name);
     if !is_open(&opened) {
-        return unopened(error_of(&opened));
+        return Err(unopened(error_of(&opened)));
     }
     read_open(opened.unwrap(), buf)
 }

@@ -10,19 +10,17 @@ ghost use Rattle.call_test_board.specs.Call.{test_board_bytes};
 ghost use Rattle.loader_words.specs.Words.{WordsHeard, asked_by};
 ghost use Rattle.loader.specs.Printing.{WriteTried, Handed, TestBoardRan};
 
-use call_test_board::TestBoardAnswer;
 use file_format::Board;
-use loader_words::{Asked, Told, Word, asked_by, read_words};
+use loader_words::{Asked, Told, asked_by, read_words};
 
 // The longest file of a test board.
 const BYTES: usize = 4 + 2 * Board::MAX_NODES + 4 * Board::MAX_LINKS;
 
-// What came of the words: the test board's file was handed whole to standard output; or that failed; or a number was
-// out of its range; or a word was none.
-#[derive(Clone, Copy)]
-enum Printed {
-    Whole,
-    Failed,
+// Why the test board's file was not handed whole to standard output: that failed; or a number was out of its range; or
+// a word was none.
+#[derive(Clone, Copy, Debug, PartialEq, Eq)]
+enum PrintError {
+    OutputFailed,
     OutOfRange,
     NoNumbers,
 }
@@ -31,7 +29,7 @@ enum Printed {
 #[derive(Clone, Copy)]
 struct Run {
     told: Told,
-    printed: Printed,
+    printed: Result<(), PrintError>,
 }
 
 // Hands the file of a test board to standard output, and notes how many bytes it has. Nothing was handed over before.
@@ -45,14 +43,14 @@ fn hand(
     k: u32,
     handed: &mut usize,
     bytes: &[u8],
-) -> Printed
+) -> Result<(), PrintError>
     requires { (handed.old ≡ 0) × (bytes.now ≡ test_board_bytes seed n m k) }
     ensures { WriteTried (length bytes.now) handed.new result }
 {
     if output::hand(rt, failure, handed, bytes) {
-        return Printed::Whole;
+        return Ok(());
     }
-    Printed::Failed
+    Err(PrintError::OutputFailed)
 }
 
 // Makes the test board in a buffer that is long enough for each, and hands it on.
@@ -65,57 +63,44 @@ fn print_test_board(
     k: u32,
     out: &mut [u8],
     handed: &mut usize,
-) -> Printed
+) -> Result<(), PrintError>
     requires { (length_of editions.First 512 4096 ≤ length out.old) × (handed.old ≡ 0) }
     ensures { Handed seed n m k out.new handed.new result }
 {
-    let answer = call_test_board::test_board(seed, n, m, k, out);
-    let TestBoardAnswer::Made(size) = answer else {
-        return Printed::OutOfRange;
+    let Ok(size) = call_test_board::test_board(seed, n, m, k, out) else {
+        return Err(PrintError::OutOfRange);
     };
     hand(rt, failure, seed, n, m, k, handed, &out[..size])
 }
 
 // The test board that four words ask for.
+#[tactic(auto, unfolding(crate::specs::Printing::TestBoardRan, crate::specs::Printing::Given))]
 fn print_words(
     rt: &HostRuntime,
     failure: &mut i32,
     words: Asked,
     out: &mut [u8],
     handed: &mut usize,
-) -> Printed
+) -> Result<(), PrintError>
     requires { (length_of editions.First 512 4096 ≤ length out.old) × (handed.old ≡ 0) }
     ensures { TestBoardRan words out.new handed.new result }
 {
-    let first = words.seed;
-    let Word::Number(seed) = first else {
-        return Printed::NoNumbers;
-    };
-    let second = words.n;
-    let Word::Number(n) = second else {
-        return Printed::NoNumbers;
-    };
-    let third = words.m;
-    let Word::Number(m) = third else {
-        return Printed::NoNumbers;
-    };
-    let fourth = words.k;
-    let Word::Number(k) = fourth else {
-        return Printed::NoNumbers;
-    };
+    let seed = words.seed.ok_or(PrintError::NoNumbers)?;
+    let n = words.n.ok_or(PrintError::NoNumbers)?;
+    let m = words.m.ok_or(PrintError::NoNumbers)?;
+    let k = words.k.ok_or(PrintError::NoNumbers)?;
     print_test_board(rt, failure, seed, n, m, k, out, handed)
 }
 
-// Tells on standard error where there is no test board.
-fn tell(rt: &HostRuntime, printed: Printed, failure: i32) {
-    match printed {
-        Printed::Whole => {}
-        Printed::Failed => output::fail(rt, "the load is not whole", failure),
-        Printed::OutOfRange => output::tell(
+// Tells on standard error why there is no test board.
+fn tell(rt: &HostRuntime, error: PrintError, failure: i32) {
+    match error {
+        PrintError::OutputFailed => output::fail(rt, "the load is not whole", failure),
+        PrintError::OutOfRange => output::tell(
             rt,
             "refused 10: N is from 1 to 512, M at most 4096, K from 1 to 65536",
         ),
-        Printed::NoNumbers => output::tell(
+        PrintError::NoNumbers => output::tell(
             rt,
             "usage: loader SEED N M K, four numbers below 4294967296",
         ),
@@ -161,6 +146,7 @@ fn main(rt: HostRuntime) {
         &mut out,
         &mut handed,
     );
-    let printed = run.printed;
-    tell(&rt, printed, failure);
+    if let Err(error) = run.printed {
+        tell(&rt, error, failure);
+    }
 }

@@ -2,26 +2,19 @@
 // below 2^32.
 #![tactic(auto)]
 
-ghost use Rattle.std.specs.Prelude.{◌≡◌, eqb};
-ghost use Rattle.loader_words.specs.Words.{word_of, is_digit, heard_of, Heard, WordsHeard, asked_by};
+ghost use Rattle.std.specs.Prelude.{◌≡◌, ◌≤◌, IfOk, eqb, length};
+ghost use Rattle.loader_words.specs.Words.{word_of, heard_of, Heard, WordsHeard, asked_by};
 
 use std::env::FillError;
 use std::rt::Env;
 
-#[derive(Clone, Copy)]
-pub enum Word {
-    Number(u32),
-    NoNumber,
-}
-
-// An argument: its index, what the system answered when it was asked for, an error or else a length, and the number
-// that it is.
+// An argument: its index, what the system answered when it was asked for, its length or an error, and the number that it
+// is, if it is one.
 #[derive(Clone, Copy)]
 pub struct Argument {
     index: usize,
-    error: Option<FillError>,
-    size: usize,
-    word: Word,
+    answer: Result<usize, FillError>,
+    word: Option<u32>,
 }
 
 // What the program was told: how many arguments, its own name among them, and the four behind that.
@@ -34,73 +27,57 @@ pub struct Told {
     k: Argument,
 }
 
-// The four words that ask for a test board.
+// The numbers that the four words which ask for a test board are, `None` for a word that is none.
 #[derive(Clone, Copy)]
 pub struct Asked {
-    pub seed: Word,
-    pub n: Word,
-    pub m: Word,
-    pub k: Word,
+    pub seed: Option<u32>,
+    pub n: Option<u32>,
+    pub m: Option<u32>,
+    pub k: Option<u32>,
 }
 
-#[tactic(auto, unfolding(crate::specs::Words::is_digit))]
-fn is_digit(byte: u8) -> bool
-    ensures { result ≡ is_digit byte }
-{
-    if byte < 48 {
-        return false;
-    }
-    byte <= 57
-}
-
-// The number that a word is.
-fn number(word: &[u8]) -> Word
+// The number that a word is, if it is one.
+fn number(word: &[u8]) -> Option<u32>
     ensures { result ≡ word_of word.now }
 {
-    let size = word.len();
-    if size < 1 {
-        return Word::NoNumber;
+    if word.is_empty() {
+        return None;
     }
     let mut value: u64 = 0;
-    let mut i = 0;
-    while i < size {
-        if !is_digit(word[i]) {
-            return Word::NoNumber;
+    for &byte in word {
+        if !byte.is_ascii_digit() {
+            return None;
         }
-        value = 10 * value + (word[i] - 48) as u64;
+        value = 10 * value + (byte - 48) as u64;
         if value >= 4294967296 {
-            return Word::NoNumber;
+            return None;
         }
-        i += 1;
     }
-    Word::Number(value as u32)
+    Some(value as u32)
 }
 
 // The number that an argument is, from what the system answered when it was asked for: no error where the word is
 // whole.
 #[tactic(auto, unfolding(crate::specs::Words::heard_of))]
-fn number_of(error: Option<FillError>, word: &[u8]) -> Word
-    ensures { result ≡ heard_of error word.now }
+fn number_of(answer: Result<usize, FillError>, buf: &[u8]) -> Option<u32>
+    requires { IfOk answer (λ size. size ≤ length buf.now) }
+    ensures { result ≡ heard_of answer buf.now }
 {
-    if error.is_some() {
-        return Word::NoNumber;
+    match answer {
+        Ok(size) => number(&buf[..size]),
+        Err(_) => None,
     }
-    number(word)
 }
 
 // Asks the system for an argument by its index, into a lent buffer, and hears what number it is.
 fn hear(rt: &HostRuntime, index: usize, buf: &mut [u8]) -> Argument
     ensures { Heard index buf.new result }
 {
-    let (error, size) = match rt.arg(index, buf) {
-        Ok(size) => (None, size),
-        Err(error) => (Some(error), 0),
-    };
-    let word = number_of(error, &buf[..size]);
+    let answer = rt.arg(index, buf);
+    let word = number_of(answer, buf);
     Argument {
         index,
-        error,
-        size,
+        answer,
         word,
     }
 }
@@ -143,19 +120,16 @@ pub fn asked_by(told: Told) -> Asked
 {
     if !are_four(told.count) {
         return Asked {
-            seed: Word::NoNumber,
-            n: Word::NoNumber,
-            m: Word::NoNumber,
-            k: Word::NoNumber,
+            seed: None,
+            n: None,
+            m: None,
+            k: None,
         };
     }
-    let first = told.seed;
-    let seed = first.word;
-    let second = told.n;
-    let n = second.word;
-    let third = told.m;
-    let m = third.word;
-    let fourth = told.k;
-    let k = fourth.word;
-    Asked { seed, n, m, k }
+    Asked {
+        seed: told.seed.word,
+        n: told.n.word,
+        m: told.m.word,
+        k: told.k.word,
+    }
 }

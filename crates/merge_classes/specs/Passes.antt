@@ -4,7 +4,7 @@ use Rattle.base_lists.specs.Kit.{List, ℕ, length, get_or, take}
 use Rattle.base_lists.specs.Below.{count_below, collect}
 use Rattle.base_lists.specs.List.{tabulate}
 use Rattle.graph.specs.Circuit.{Circuit, circuit}
-use Rattle.file_format.specs.declared.Pattern.{Pattern}
+use Rattle.file_format.specs.declared.Size.{Size}
 use Rattle.merge.specs.Merged.{is_leader, class_in, class_count, classes, merged}
 use Rattle.merge.specs.Steps.{Led}
 
@@ -28,7 +28,7 @@ unfoldable pub leader_labels : List ℕ → List ℕ → List ℕ
 leader_labels t kinds = collect (length t) (is_leader (length t) t) (λ u. get_or kinds u 0)
 
 -- a pattern's classes, and its quotient by them, the merged pattern, at the front of three tables, of the size told
-pub record Quotient (p : Circuit) (bytes kinds starts ends : List ℕ) (size : Pattern) : Type 0 where
+pub record Quotient (p : Circuit) (bytes kinds starts ends : List ℕ) (size : Size) : Type 0 where
   pub numbered : bytes ≡ classes p
   pub counted : size.nodes ≡ class_count p
   pub linked : size.links ≡ length (merged p).starts

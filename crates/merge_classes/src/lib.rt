@@ -13,6 +13,7 @@ fn leader(table: &[u32], u: usize) -> usize
     ensures { result ≡ leader (length table.now) table.now u }
 {
     let mut left = table[u];
+    // A while: it goes over the bits that are set.
     while left != 0 {
         let v = base_bits::first(left) as usize;
         if base_bits::has(table[v], u as u32) {
@@ -32,8 +33,7 @@ pub fn number_classes(table: &[u32], classes: &mut [u8]) -> usize
     ensures classes_after { classes.new ≡ class_numbers table.now }
 {
     let mut next = 0;
-    let mut u = 0;
-    while u < table.len() {
+    for u in 0..table.len() {
         let v = leader(table, u);
         if v == u {
             classes[u] = next as u8;
@@ -41,7 +41,6 @@ pub fn number_classes(table: &[u32], classes: &mut [u8]) -> usize
         } else {
             classes[u] = classes[v];
         }
-        u += 1;
     }
     next
 }
@@ -54,12 +53,10 @@ pub fn leader_labels(table: &[u32], labels: &[u32], out: &mut [u32])
         ≡ sets out.old 0 (leader_labels table.now labels.now) }
 {
     let mut next = 0;
-    let mut u = 0;
-    while u < labels.len() {
+    for (u, &label) in labels.iter().enumerate() {
         if leader(table, u) == u {
-            out[next] = labels[u];
+            out[next] = label;
             next += 1;
         }
-        u += 1;
     }
 }

@@ -1,5 +1,5 @@
 -- The merged pattern, made at the front of three tables: writing it as a pattern of either edition gives its file, and is not refused. Assumes nothing.
-use Rattle.std.specs.Prelude.{◌≡◌, ◌≤◌, ◌<◌}
+use Rattle.std.specs.Prelude.{◌≡◌, ◌≤◌, ◌<◌, Result, Ok}
 use Rattle.base_lists.specs.Kit.{◌∙◌, sym, ap, refl, subst, true, List, [], ℕ, le_trans, T, le_of_eq, lit≤, length, get_or, take, get_or-eq_default, arith, le-ltb}
 use native.Mathlib.Decide.{dec_lt}
 use Rattle.base_lists.proofs.Tests.{T_true}
@@ -9,7 +9,8 @@ use Rattle.graph.specs.Circuit.{Circuit, circuit}
 use Rattle.graph.specs.Search.{connected, radius}
 use Rattle.file_format.specs.declared.Edition.{Edition}
 use Rattle.file_format.specs.declared.Edition.TheVariants.{First, Second}
-use Rattle.file_format.specs.declared.Pattern as pattern
+use Rattle.file_format.specs.declared.Size.{Size}
+use Rattle.file_format.specs.declared.Refusal.{Refusal}
 use Rattle.file_format.specs.declared.Role.TheVariants.{Pattern}
 use Rattle.file_format.specs.Label.{packages_in}
 use Rattle.file_format.specs.Layout.{length_of}
@@ -17,10 +18,9 @@ use Rattle.file_format.specs.Role.{in_range}
 use Rattle.file_format.specs.Links.{links_below, rising}
 use Rattle.file_format.specs.Reading.{filled}
 use Rattle.file_format.specs.Refusals.{accept, first, widest, link_conditions, asks_connected}
-use Rattle.file_write.specs.declared.WriteAnswer.{WriteAnswer}
-use Rattle.file_write.specs.declared.WriteAnswer.TheVariants.{Written}
+use Rattle.file_format.specs.Reply.{number_reply}
 use Rattle.file_write.specs.Bytes.{kinds_for, circuit_bytes, LabelsFit}
-use Rattle.file_write.specs.Writing.{circuit_conditions, WriteOutcome, writing, write_reply}
+use Rattle.file_write.specs.Writing.{circuit_conditions, WriteOutcome, writing}
 use Rattle.file_write.proofs.FileFields.{length-written}
 use Rattle.file_write.proofs.RoundTrip.{length-kinds-for, packages-in-given}
 use Rattle.file_write.proofs.Writing.{verdict-links, writing-filled}
@@ -70,7 +70,7 @@ label-low ls low i = go (dec_lt i (length ls))
 module _ {p : Circuit} (c : PatternContent p) where
   -- each front has the size that was counted
   pub quotient-size :
-      {bytes kinds starts ends : List ℕ} {size : pattern.Pattern} → Quotient p bytes kinds starts ends size →
+      {bytes kinds starts ends : List ℕ} {size : Size} → Quotient p bytes kinds starts ends size →
       (length (take size.nodes kinds) ≡ size.nodes) × (length (take size.links starts) ≡ size.links) × (length (take size.links ends) ≡ size.links)
   quotient-size q = (
     ap (λ (x : Circuit). length x.labels) q.content ∙ length-merged-kinds p ∙ sym q.counted,
@@ -92,7 +92,7 @@ module _ {p : Circuit} (c : PatternContent p) where
     written :
         (kinds starts ends out : List ℕ) → circuit kinds starts ends ≡ merged p → length_of e (length p.labels) (length p.starts) ≤ length out →
         writing Pattern e (kinds_for e kinds) (packages_in kinds) starts ends out
-        ≡ record { answer = Written (length (circuit_bytes e (merged p))); reply = write_reply (Written (length (circuit_bytes e (merged p)))); out = filled accept (circuit_bytes e (merged p)) out }
+        ≡ record { answer = Ok (length (circuit_bytes e (merged p))); reply = number_reply (Ok (length (circuit_bytes e (merged p)))); out = filled accept (circuit_bytes e (merged p)) out }
     unfolding circuit_bytes
     written kinds starts ends out is room =
         let q = merged p in
@@ -104,7 +104,7 @@ module _ {p : Circuit} (c : PatternContent p) where
         (writing-filled Pattern e (kinds_for e q.labels) (packages_in q.labels) q.starts q.ends out (content-sound-in e (merged-content c)) long
         ∙ rw (sym (length-written e (kinds_for e q.labels) (packages_in q.labels) q.starts q.ends (packages-in-given e q) (merged-content c).parallel)))
 
-    module _ {bytes kinds starts ends : List ℕ} {size : pattern.Pattern} (q : Quotient p bytes kinds starts ends size) where
+    module _ {bytes kinds starts ends : List ℕ} {size : Size} (q : Quotient p bytes kinds starts ends size) where
       -- what writing it asks: few parts, whose labels are among the pattern's
       pub asked : LabelsFit e p.labels → (length (take size.nodes kinds) ≤ 512) × LabelsFit e (take size.nodes kinds)
       asked fit = (
@@ -112,17 +112,25 @@ module _ {p : Circuit} (c : PatternContent p) where
         rw (ap (λ (x : Circuit). x.labels) q.content) (labels-fit e fit),
       )
 
-      -- what it leaves
-      pub merged-from :
-          {answer : WriteAnswer} {before after : List ℕ} → length_of e (length p.labels) (length p.starts) ≤ length before →
-          record { answer = answer; reply = write_reply answer; out = after }
+      -- it is written,
+      pub written-answer :
+          {answer : Result ℕ Refusal} {after : List ℕ} (before : List ℕ) → length_of e (length p.labels) (length p.starts) ≤ length before →
+          record { answer = answer; reply = number_reply answer; out = after }
           ≡ writing Pattern e (kinds_for e (take size.nodes kinds)) (packages_in (take size.nodes kinds)) (take size.links starts) (take size.links ends) before →
-          MergedFrom e p (record { classes = size.nodes; written = answer }) bytes before after
-      merged-from {before = before} room wrote =
-          let file = wrote ∙ written _ _ _ before q.content room in
+          answer ≡ Ok (length (circuit_bytes e (merged p)))
+      written-answer before room wrote = ap (λ (o : WriteOutcome). o.answer) (wrote ∙ written _ _ _ before q.content room)
+
+      -- and that is what it leaves
+      pub merged-from :
+          {answer : Result ℕ Refusal} {after : List ℕ} (before : List ℕ) → length_of e (length p.labels) (length p.starts) ≤ length before →
+          record { answer = answer; reply = number_reply answer; out = after }
+          ≡ writing Pattern e (kinds_for e (take size.nodes kinds)) (packages_in (take size.nodes kinds)) (take size.links starts) (take size.links ends) before →
+          {long : ℕ} → answer ≡ Ok long → MergedFrom e p (record { classes = size.nodes; size = long }) bytes before after
+      merged-from {answer} before room wrote {long} told =
+          let made : answer ≡ Ok (length (circuit_bytes e (merged p))) = written-answer before room wrote in
           record {
             counted = q.counted;
-            answered = ap (λ (o : WriteOutcome). o.answer) file;
+            sized = cc;
             numbered = q.numbered;
-            stored = ap (λ (o : WriteOutcome). o.out) file;
+            stored = ap (λ (o : WriteOutcome). o.out) (wrote ∙ written _ _ _ before q.content room);
           }

@@ -12,14 +12,14 @@ ghost use Rattle.file_write.specs.Writing.{circuit_conditions};
 ghost use Rattle.merge_file.specs.Merged.{MergedFrom};
 
 use file_format::{Edition, Pattern, Role};
-use file_write::{WriteAnswer, write_circuit};
+use file_write::write_circuit;
 use merge_quotient::quotient;
 
-// How many classes a pattern has, and what writing the merged pattern came to.
+// How many classes a pattern has, and the length of its merged file.
 #[derive(Clone, Copy)]
-pub struct MergedFile {
+pub struct Merged {
     pub classes: usize,
-    pub written: WriteAnswer,
+    pub size: usize,
 }
 
 // The class of each part, and the merged file at the front of bytes that have room for the pattern's own file. A merged
@@ -31,7 +31,7 @@ pub fn merge_circuit(
     ends: &[u16],
     classes: &mut [u8],
     out: &mut [u8],
-) -> MergedFile
+) -> Merged
     requires ends_value { first (circuit_conditions role.Pattern editions.First labels.now [] starts.now ends.now)
         ≡ Verdict.accept }
     requires classes_len { (length classes.old ≡ length labels.now)
@@ -43,9 +43,9 @@ pub fn merge_circuit(
     let mut mk = [0u32; Pattern::MAX_NODES];
     let mut ms = [0u16; Pattern::MAX_LINKS];
     let mut me = [0u16; Pattern::MAX_LINKS];
-    let size = quotient(labels, starts, ends, classes, &mut mk, &mut ms, &mut me);
-    let count = size.nodes;
-    let links = size.links;
+    let merged = quotient(labels, starts, ends, classes, &mut mk, &mut ms, &mut me);
+    let count = merged.nodes;
+    let links = merged.links;
     let written = write_circuit(
         Role::Pattern,
         edition,
@@ -54,8 +54,8 @@ pub fn merge_circuit(
         &me[..links],
         out,
     );
-    MergedFile {
+    Merged {
         classes: count,
-        written,
+        size: written.unwrap(),
     }
 }

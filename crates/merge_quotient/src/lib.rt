@@ -9,7 +9,7 @@ ghost use Rattle.graph.specs.Circuit.{circuit};
 ghost use Rattle.file_write.specs.Writing.{circuit_conditions};
 ghost use Rattle.merge_classes.specs.Passes.{Quotient};
 
-use file_format::Pattern;
+use file_format::{Pattern, Size};
 use merge_classes::{leader_labels, number_classes};
 use merge_links::{mark_rows, scan};
 use table::Ways;
@@ -26,7 +26,7 @@ fn through(
     mk: &mut [u32],
     ms: &mut [u16],
     me: &mut [u16],
-) -> Pattern
+) -> Size
     requires ends_value { first (circuit_conditions role.Pattern editions.First labels.now [] starts.now ends.now)
         ≡ Verdict.accept }
     requires classes_len { (length classes.old ≡ length labels.now) × (length table.old ≡ length labels.now)
@@ -49,7 +49,7 @@ fn through(
     leader_labels(table, labels, mk);
     mark_rows(classes, starts, ends, rows);
     let links = scan(rows, count, ms, me);
-    Pattern::new(count, links)
+    Size::new(count, links)
 }
 
 // The class of each part of a pattern, and the merged pattern at the front of three tables; returns its size.
@@ -61,7 +61,7 @@ pub fn quotient(
     mk: &mut [u32],
     ms: &mut [u16],
     me: &mut [u16],
-) -> Pattern
+) -> Size
     requires ends_value { first (circuit_conditions role.Pattern editions.First labels.now [] starts.now ends.now)
         ≡ Verdict.accept }
     requires classes_len { length classes.old ≡ length labels.now }

@@ -1,7 +1,7 @@
 -- Which comparison decides, by computation. Assumes nothing.
 use Rattle.std.specs.Prelude.{◌≡◌}
 use Rattle.base_lists.specs.Kit.{refl}
-use Rattle.order.specs.declared.Order.TheVariants.{Less}
+use Rattle.std.specs.declared.cmp.Ordering.TheVariants.{Less}
 use Rattle.order.specs.Order.{compare_whole}
 use Rattle.order.specs.Examples.{order_computed, linked_both, three_nodes, linked_once, other_package, opposite_way, high_byte}
 

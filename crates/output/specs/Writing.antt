@@ -3,8 +3,6 @@ use Rattle.std.specs.Prelude.{Bool, false, ◌||◌, List, ◌≡◌, ℕ, eqb, 
 use Rattle.std.specs.Prelude.{Option, Some, None}
 use Rattle.std.specs.IoError.{raw_os_error}
 use Rattle.std.specs.declared.io.Error.{Error}
-use Rattle.output.specs.declared.Output.{Output}
-use Rattle.output.specs.declared.Output.TheVariants as output
 
 -- C's errno has this number
 unfoldable pub is_error : ℕ → ℤ → Bool
@@ -16,9 +14,9 @@ unfoldable pub tried_again : ℤ → Bool
 tried_again error = is_error 4 error || is_error 11 error
 
 -- where the writing did not fail, as many bytes were taken as there are
-unfoldable pub All : List ℕ → Output → Type 0
-All bytes (output.Written taken) = taken ≡ length bytes
-All bytes output.Failed = Unit {0}
+unfoldable pub All : List ℕ → Option ℕ → Type 0
+All bytes (Some taken) = taken ≡ length bytes
+All bytes None = Unit {0}
 
 -- C's errno of an error, 0 where it is not the system's
 abbrev pub number_of : Error → ℤ

@@ -10,13 +10,6 @@ use std::io::Error;
 use std::os::fd::AsRawFd;
 use std::thread;
 
-// What came of the writing: as many bytes were taken as there are, or a write failed or could not be completed.
-#[derive(Clone, Copy)]
-pub enum Output {
-    Written(usize),
-    Failed,
-}
-
 // How often in a row a write that takes nothing is tried: an output that does not block may be full for a while, and
 // nothing here can wait for it. That is some seconds.
 const TRIES: u32 = 10000000;
@@ -44,10 +37,7 @@ fn again(error: i32) -> bool
 pub fn number_of(error: &Error) -> i32
     ensures { result ≡ number_of error.now }
 {
-    match error.raw_os_error() {
-        Some(number) => number,
-        None => 0,
-    }
+    error.raw_os_error().unwrap_or(0)
 }
 
 // Lets others run before a write is tried again.
@@ -85,21 +75,22 @@ fn take_some<W: Print + AsRawFd>(
     0
 }
 
-// Writes all of the bytes to standard output, or stops at the first write that fails, whose error is noted by its
-// number.
+// Writes all of the bytes to standard output, and answers how many there are; or stops at the first write that fails or
+// cannot be completed, whose error is noted by its number, and answers `None`.
 #[tactic(auto, unfolding(crate::specs::Writing::All))]
-pub fn write_whole(rt: &HostRuntime, failure: &mut i32, bytes: &[u8]) -> Output
+pub fn write_whole(rt: &HostRuntime, failure: &mut i32, bytes: &[u8]) -> Option<usize>
     ensures { All bytes.now result }
 {
     let mut done: usize = 0;
+    // A while: a write takes as many bytes as it likes.
     while done < bytes.len() {
         let taken = take_some(&rt.stdout(), failure, bytes, done, &bytes[done..]);
         if taken == 0 {
-            return Output::Failed;
+            return None;
         }
         done += taken;
     }
-    Output::Written(done)
+    Some(done)
 }
 
 // Hands bytes to standard output, to which nothing was handed before, and notes how many there are. The answer says
@@ -109,8 +100,7 @@ pub fn hand(rt: &HostRuntime, failure: &mut i32, handed: &mut usize, bytes: &[u8
     requires { handed.old ≡ 0 }
     ensures { handed.new ≡ cond result (length bytes.now) 0 }
 {
-    let answer = write_whole(rt, failure, bytes);
-    let Output::Written(size) = answer else {
+    let Some(size) = write_whole(rt, failure, bytes) else {
         return false;
     };
     *handed = size;

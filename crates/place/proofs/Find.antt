@@ -1,6 +1,7 @@
 -- Finding the place from a first table: from what it starts from to what it comes to, and what is then marked. Assumes nothing.
-use Rattle.std.specs.Prelude.{◌≡◌, ◌≤◌, ◌<◌, ◌^◌}
-use Rattle.base_lists.specs.Kit.{◌∙◌, sym, ap, refl, subst, Bool, false, true, cond, not, List, ℕ, zero-le, T, eqb, length, get_or, take, eqb-false}
+use Rattle.std.specs.Prelude.{◌≡◌, ◌≤◌, ◌<◌, ◌^◌, Option, Some, None}
+use Rattle.std.specs.Option.{is_some}
+use Rattle.base_lists.specs.Kit.{◌∙◌, sym, ap, refl, subst, Bool, false, true, cond, not, List, [], ℕ, T, eqb, length, get_or, take, eqb-false}
 use Rattle.base_lists.specs.List.{Below}
 use Rattle.base_lists.proofs.Tests.{true-T, false-T}
 use Rattle.base_lists.proofs.Tables.{tabulate-same}
@@ -28,6 +29,7 @@ use Rattle.table.proofs.Sets.{fits_word}
 use Rattle.place.specs.Match.{ball_of, distances_of, ball_table, matches, found, place_nodes, place_links, place_table}
 use Rattle.place.specs.Spread.{matched, Reached, Spread, Lists}
 use Rattle.place.specs.Bytes.{driven_by, link_byte, bytes_of_links, node_sets, link_marks}
+use Rattle.place.specs.declared.PlaceFound.{PlaceFound}
 use Rattle.place.specs.Find.{Tabled, Located, Seen, Sought, FoundIn}
 use Rattle.place.proofs.Ball.{ball-fits}
 use Rattle.place.proofs.Bytes.{bytes-nodes, bytes-links, sets-table}
@@ -285,26 +287,37 @@ module _ {pattern board : Circuit} {t : Tables} {w r : ℕ} {nodes first : List 
 
     -- the centre is struck: there is no place
     pub found_nothing : (dist queue : List ℕ) → get_or sets w 0 ≡ 0
-        → FoundIn pattern board t w r nodes first dist queue sets (record { found = false; size = 0; rest = rest })
+        → FoundIn pattern board t w r nodes first dist queue sets (record { size = None; rest = rest })
     found_nothing dist queue z =
         record {
           rested = e;
           answer = sym (s.seen.none (rw e.last at z));
-          short = zero-le;
-          there = λ q. absurd (false-T refl (true-T q));
+          short = λ k q. cc;
+          there = λ k q. cc;
         }
 
     -- it is left: what the search for the component reaches is the place
     module _ (dist : List ℕ) (g : Spread n w (matched t sets) dist) where
       pub found-place : (queue : List ℕ) (k : ℕ) → (get_or sets w 0 ≡ 0 → ⊥) → k ≤ length queue → Lists (take k queue) dist
-          → FoundIn pattern board t w r nodes first dist queue sets (record { found = true; size = k; rest = rest })
+          → FoundIn pattern board t w r nodes first dist queue sets (record { size = Some k; rest = rest })
       found-place queue k f h l =
           record {
             rested = e;
             answer = sym (s.seen.some (rw e.last at f));
-            short = h;
-            there = λ _. rw e.last (s.seen.there dist (take k queue) (rw e.last at g) l);
+            short = λ m q. let is : k ≡ m = cc in subst (λ (x : ℕ). x ≤ length queue) is h;
+            there = λ m q.
+                let is : k ≡ m = cc in
+                subst (λ (x : ℕ). Located pattern board t w r dist sets (take x queue)) is (rw e.last (s.seen.there dist (take k queue) (rw e.last at g) l));
           }
+
+-- where there is a place, it is in the tables, however many nodes it has
+pub found-located : {pattern board : Circuit} {t : Tables} {w r : ℕ} {nodes first dist queue sets : List ℕ} {a : PlaceFound}
+    → FoundIn pattern board t w r nodes first dist queue sets a → (list : List ℕ) × (is_some a.size ≡ true → Located pattern board t w r dist sets list)
+found-located {pattern} {board} {t} {w} {r} {dist = dist} {queue = queue} {sets = sets} {a = a} f = go a.size refl
+  where
+    go : (o : Option ℕ) → a.size ≡ o → (list : List ℕ) × (is_some o ≡ true → Located pattern board t w r dist sets list)
+    go None e = ([], λ q. absurd (false-T refl (true-T q)))
+    go (Some k) e = (take k queue, λ _. f.there k e)
 
 -- ---- what is marked
 

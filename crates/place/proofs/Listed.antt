@@ -7,7 +7,6 @@ use Rattle.base_lists.proofs.Tests.{same_test, true-T, both_true, both_left, bot
 use Rattle.base_lists.proofs.Tables.{tabulate-same}
 use Rattle.base_bits.specs.Bits.{intersects}
 use Rattle.graph.specs.Net.{forward_offsets, forward_targets, NetOf}
-use Rattle.graph.specs.Neighbours.{below}
 use Rattle.graph.specs.Search.{far}
 use Rattle.graph.proofs.Sorted.{Sorted, sorted-at, link_at}
 use Rattle.table.specs.Fill.{listed, marks_of, table_at}

@@ -1,6 +1,6 @@
 -- Over prepared tables the search follows the match graph's links, so that what it reaches is the centre's component; and the ball's list
 -- is the list of the first search. Assumes nothing.
-use Rattle.std.specs.Prelude.{◌≡◌, ◌↔◌, ◌⊎◌, ◌≤◌, ◌<◌, ◌^◌}
+use Rattle.std.specs.Prelude.{◌≡◌, ◌↔◌, ◌≤◌, ◌<◌, ◌^◌}
 use Rattle.base_lists.specs.Kit.{◌∙◌, sym, ap, refl, subst, ⊎_elim, inl, inr, Bool, false, true, cond, not, List, ℕ, le_of_lt, T, eqb, eqb→eq, length, get_or, take, arith, eq-eqb, ne_eqb}
 use Rattle.base_lists.specs.List.{Occurs, any, Below}
 use Rattle.base_lists.proofs.Tests.{same_test, true-T, any_at, at-any}

@@ -1,5 +1,5 @@
 -- What the place's outcome comes to, by cases of whether the centre is found. Assumes nothing.
-use Rattle.std.specs.Prelude.{◌≡◌, ◌++◌}
+use Rattle.std.specs.Prelude.{◌≡◌, ◌++◌, Ok, Err}
 use Rattle.base_lists.specs.Kit.{◌∙◌, sym, ap, false, true, List, ℕ, length, get_or, drop, eq-eqb, ne_eqb}
 use Rattle.graph.specs.Circuit.{Circuit}
 use Rattle.file_format.specs.declared.File.TheVariants.{Neither}
@@ -7,7 +7,6 @@ use Rattle.file_format.specs.Reading.{filled}
 use Rattle.file_format.specs.Refusals.{accept}
 use Rattle.table.specs.declared.Counts.{Counts}
 use Rattle.table.specs.Refine.{counts_of}
-use Rattle.place.specs.declared.PlaceAnswer.TheVariants.{Placed, Refused}
 use Rattle.place.specs.Match.{ball_of, distances_of, ball_table, found, place_nodes, place_links, place_table}
 use Rattle.place.specs.Outcome.{place_reply, place_verdict, place_around}
 use Rattle.place.proofs.Marks.{nodes-marks, links-marks, length-table, length-ball_distances}
@@ -26,7 +25,7 @@ pub around-none :
     (pattern board : Circuit) (w r : ℕ) (counts : Counts) → counts ≡ counts_of pattern board (ball_of board w r) → found pattern board w r ≡ false →
     (nodes links table distances : List ℕ) →
     record {
-      reply = place_reply (Refused (record { number = 9; file = Neither }) counts);
+      reply = place_reply (Err (record { refusal = record { number = 9; file = Neither }; counts = counts }));
       nodes = nodes;
       links = links;
       table = table;
@@ -49,7 +48,7 @@ pub around-some :
     links' ≡ place_links pattern board w r ++ drop (length board.starts) links →
     table' ≡ place_table pattern board w r ++ drop (length board.labels) table →
     distances' ≡ distances_of board w r ++ drop (length board.labels) distances →
-    record { reply = place_reply (Placed counts); nodes = nodes'; links = links'; table = table'; distances = distances' }
+    record { reply = place_reply (Ok counts); nodes = nodes'; links = links'; table = table'; distances = distances' }
     ≡ place_around pattern board w r nodes links table distances
 unfolding place_around place_verdict place_reply
 around-some pattern board w r counts k e nodes links table distances en el et ed =

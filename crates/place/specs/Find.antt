@@ -1,5 +1,6 @@
 -- Finding the place around a centre from a first table: what it starts from, and what it leaves, before anything is written out.
-use Rattle.std.specs.Prelude.{◌≡◌, ◌≤◌, ◌<◌}
+use Rattle.std.specs.Prelude.{◌≡◌, ◌≤◌, ◌<◌, Some}
+use Rattle.std.specs.Option.{is_some}
 use Rattle.base_lists.specs.Kit.{false, true, List, ℕ, length, get_or, take}
 use Rattle.base_lists.specs.List.{Below}
 use Rattle.graph.specs.Circuit.{Circuit}
@@ -55,12 +56,12 @@ pub record SoughtBySome (t : Tables) (w : ℕ) (nodes first : List ℕ) : Type 0
   pub radius : ℕ
   pub sought : Sought pattern board t w radius nodes first
 
--- What finding comes to: where the rounds end in the ball, whether there is a place, and then the place in the tables.
+-- What finding comes to: where the rounds end in the ball, whether there is a place, and then the place in the tables, by how many nodes it has.
 pub record FoundIn (pattern board : Circuit) (t : Tables) (w r : ℕ) (nodes first dist queue sets : List ℕ) (a : PlaceFound) : Type 0 where
   pub rested : Rested pattern board (marks_of (length board.labels) nodes) first sets a.rest
-  pub answer : a.found ≡ found pattern board w r
-  pub short : a.size ≤ length queue
-  pub there : a.found ≡ true → Located pattern board t w r dist sets (take a.size queue)
+  pub answer : is_some a.size ≡ found pattern board w r
+  pub short : (k : ℕ) → a.size ≡ Some k → k ≤ length queue
+  pub there : (k : ℕ) → a.size ≡ Some k → Located pattern board t w r dist sets (take k queue)
 
 -- this of every pattern, board and radius that finding starts from
 abbrev pub Finds : Tables → ℕ → List ℕ → List ℕ → List ℕ → List ℕ → List ℕ → PlaceFound → Type 0

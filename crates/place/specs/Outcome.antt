@@ -1,19 +1,20 @@
 -- What finding a place comes to: the reply, and each lent table's later content, from the inputs alone.
+use Rattle.std.specs.Prelude.{Result, Ok, Err}
 use Rattle.base_lists.specs.Kit.{cond, List, ℕ}
 use Rattle.graph.specs.Circuit.{Circuit}
 use Rattle.file_format.specs.declared.File.TheVariants.{Neither}
 use Rattle.file_format.specs.Reading.{filled}
 use Rattle.file_format.specs.Refusals.{Verdict, accept, refuse}
+use Rattle.table.specs.declared.Counts.{Counts}
 use Rattle.table.specs.Refine.{counts_of}
 use Rattle.table.specs.Reply.{MatchReply}
-use Rattle.place.specs.declared.PlaceAnswer.{PlaceAnswer}
-use Rattle.place.specs.declared.PlaceAnswer.TheVariants.{Placed, Refused}
+use Rattle.place.specs.declared.NoPlace.{NoPlace}
 use Rattle.place.specs.Match.{ball_of, distances_of, found, place_nodes, place_links, place_table}
 
 -- number, file and counts of each case of the answer
-unfoldable pub place_reply : PlaceAnswer → MatchReply
-place_reply (Placed counts) = record { verdict = accept; counts = counts }
-place_reply (Refused x counts) = record { verdict = refuse x; counts = counts }
+unfoldable pub place_reply : Result Counts NoPlace → MatchReply
+place_reply (Ok counts) = record { verdict = accept; counts = counts }
+place_reply (Err none) = record { verdict = refuse none.refusal; counts = none.counts }
 
 -- the reply, and the four tables as the call leaves them
 pub record PlaceOutcome : Type 0 where

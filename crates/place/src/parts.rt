@@ -1,4 +1,5 @@
-// What the parts of a set drive, and what drives them, from the pattern's masks.
+// What the parts of a set drive, and what drives them, from the pattern's masks. (Two functions: a direction told to one
+// would be a constant at every call, and the masks have two names in the specs, `succ_of` and `pred_of`.)
 ghost use Rattle.std.specs.Prelude.{◌≡◌, length};
 ghost use Rattle.base_bits.specs.Bits.{union_over};
 ghost use Rattle.table.specs.Prepared.{succ_of, pred_of};

@@ -40,16 +40,11 @@ pub fn find(
     let rest = refine(&queue[..k], masks, offsets, targets, sets, spare, started);
     let at = c as usize;
     if sets[at] == 0 {
-        return PlaceFound {
-            found: false,
-            size: 0,
-            rest,
-        };
+        return PlaceFound { size: None, rest };
     }
     let size = component(masks, offsets, targets, sets, c, dist, queue);
     PlaceFound {
-        found: true,
-        size,
+        size: Some(size),
         rest,
     }
 }

@@ -1,7 +1,8 @@
 -- Finding in the ball around a centre, from the kinds and from tables: whose links these are of need not be handed on,
 -- and every pattern and board that they are of has the same place.
-use Rattle.std.specs.Prelude.{◌≡◌, ◌≤◌}
-use Rattle.base_lists.specs.Kit.{true, List, ℕ, length, take}
+use Rattle.std.specs.Prelude.{◌≡◌, ◌≤◌, Some}
+use Rattle.std.specs.Option.{is_some}
+use Rattle.base_lists.specs.Kit.{List, ℕ, length, take}
 use Rattle.graph.specs.Circuit.{Circuit, circuit}
 use Rattle.table.specs.Prepared.{Tables}
 use Rattle.table.specs.Refine.{counts_of}
@@ -22,10 +23,10 @@ pub record SomeTabled (part_labels nodeLabels : List ℕ) (t : Tables) : Type 0 
 -- entries
 pub record PlacedIn (pattern board : Circuit) (t : Tables) (around : Around) (dist queue sets : List ℕ) (a : InBall) : Type 0 where
   pub counted : a.counts ≡ counts_of pattern board (ball_of board around.centre around.radius)
-  pub answer : a.found ≡ found pattern board around.centre around.radius
-  pub short : a.size ≤ length queue
+  pub answer : is_some a.size ≡ found pattern board around.centre around.radius
+  pub short : (k : ℕ) → a.size ≡ Some k → k ≤ length queue
   pub measured : dist ≡ distances_of board around.centre around.radius
-  pub there : a.found ≡ true → (joined : List ℕ) × Located pattern board t around.centre around.radius joined sets (take a.size queue)
+  pub there : (k : ℕ) → a.size ≡ Some k → (joined : List ℕ) × Located pattern board t around.centre around.radius joined sets (take k queue)
 
 -- this for every pattern and board with these kinds that the tables are of
 abbrev pub EveryPlaced : List ℕ → List ℕ → Tables → Around → List ℕ → List ℕ → List ℕ → InBall → Type 0

@@ -12,11 +12,10 @@ use place_around::find;
 use table::{Counts, counted};
 use table_first::start;
 
-// Whether there is a place in a ball, how many nodes it has, and the ball's counts.
+// How many nodes the place in a ball has, if there is one, and the ball's counts.
 #[derive(Clone, Copy)]
 pub struct InBall {
-    pub found: bool,
-    pub size: usize,
+    pub size: Option<usize>,
     pub counts: Counts,
 }
 
@@ -54,7 +53,6 @@ pub fn find_in_ball(
     let place = find(masks, offsets, targets, c, k, p, apart, queue, sets, spare);
     let rest = place.rest;
     InBall {
-        found: place.found,
         size: place.size,
         counts: counted(p, rest),
     }

@@ -1,10 +1,11 @@
 -- The place of a pattern and a board that were read, from the kinds and from tables.
-use Rattle.std.specs.Prelude.{◌≡◌}
+use Rattle.std.specs.Prelude.{◌≡◌, Result}
 use Rattle.base_lists.specs.Kit.{List, ℕ}
 use Rattle.graph.specs.Circuit.{Circuit, circuit}
 use Rattle.file_format.specs.Circuit.{Drawn}
+use Rattle.table.specs.declared.Counts.{Counts}
 use Rattle.table.specs.Prepared.{Tables, Prepared}
-use Rattle.place.specs.declared.PlaceAnswer.{PlaceAnswer}
+use Rattle.place.specs.declared.NoPlace.{NoPlace}
 use Rattle.place.specs.Outcome.{PlaceOutcome, place_reply}
 
 -- the tables are those of a pattern and a board that were read, with these kinds and some links
@@ -17,7 +18,7 @@ pub record SomeDrawn (part_labels nodeLabels : List ℕ) (t : Tables) : Type 0 w
   pub prepared : Prepared (circuit part_labels part_starts part_ends) (circuit nodeLabels node_starts node_ends) t
 
 -- an answer, and what the four tables are left with
-abbrev pub placed_as : PlaceAnswer → List ℕ → List ℕ → List ℕ → List ℕ → PlaceOutcome
+abbrev pub placed_as : Result Counts NoPlace → List ℕ → List ℕ → List ℕ → List ℕ → PlaceOutcome
 placed_as a nodes links table distances =
     record { reply = place_reply a; nodes = nodes; links = links; table = table; distances = distances }
 

@@ -7,11 +7,18 @@ ghost use Rattle.table.specs.Prepared.{tables};
 ghost use Rattle.place.specs.Outcome.{place_around};
 ghost use Rattle.place_circuits.specs.Drawn.{placed_as, SomeDrawn, EveryDrawn};
 
+use base_lists::copy;
 use file_format::{Board, File, Refusal};
-use graph::copy;
-use place::{Around, PlaceAnswer};
+use place::{Around, NoPlace};
 use place_ball::find_in_ball;
 use place_mark::mark;
+use table::Counts;
+
+// No place around the centre.
+const NO_PLACE: Refusal = Refusal {
+    number: 9,
+    file: File::Neither,
+};
 
 // The place around a centre: the ball's counts, and the four lent tables written; or number 9 with the ball's counts,
 // which leaves those tables as they were. The last offset is how many links the board has.
@@ -26,7 +33,7 @@ pub fn place_circuits(
     bytes: &mut [u8],
     table: &mut [u32],
     distances: &mut [u16],
-) -> PlaceAnswer
+) -> Result<Counts, NoPlace>
     requires some_drawn { SomeDrawn part_labels.now node_labels.now (tables masks.now offsets.now targets.now) }
     requires centre_in_bounds { around.centre < length node_labels.now }
     requires node_labels_in_bounds { (length node_labels.now ≤ length nodes.old) ×
@@ -58,16 +65,12 @@ pub fn place_circuits(
         &mut spare[..n],
     );
     let counts = ball.counts;
-    if !ball.found {
-        return PlaceAnswer::Refused(
-            Refusal {
-                number: 9,
-                file: File::Neither,
-            },
+    let Some(size) = ball.size else {
+        return Err(NoPlace {
+            refusal: NO_PLACE,
             counts,
-        );
-    }
-    let size = ball.size;
+        });
+    };
     mark(
         masks,
         offsets,
@@ -79,5 +82,5 @@ pub fn place_circuits(
         &mut table[..n],
     );
     copy(&dist[..n], distances);
-    PlaceAnswer::Placed(counts)
+    Ok(counts)
 }

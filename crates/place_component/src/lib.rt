@@ -86,6 +86,7 @@ pub fn reach(
     let mut level = 0;
     let mut tail = 1;
     let mut depth: u16 = 0;
+    // A while: the queue grows as the loop runs, so no range is known.
     while tail < size {
         if looked == level {
             if ended(level, tail, depth, r) {

@@ -13,21 +13,19 @@ ghost use Rattle.place.specs.Spread.{matched};
 ghost use Rattle.place_components.specs.Components.{MatchTable, ComponentsBefore, Components, same_component};
 ghost use Rattle.place_components.specs.Components.{Gathered};
 
+use base_lists::fill;
 use file_format::Board;
-use graph::{UNREACHED, fill};
+use graph::UNREACHED;
 use graph_gather::{keep, search_until};
 use place_component::component;
 
-// Sets the entry of each node of a list to x.
+// Sets the entry of each node of a list to x. (place_mark stores bytes so: see there.)
 fn store_each(nodes: &[u16], x: u16, table: &mut [u16])
     requires { Below (length table.old) nodes.now }
     ensures { table.new ≡ fill_at (λ v. x) nodes.now table.old }
 {
-    let mut i = 0;
-    while i < nodes.len() {
-        let v = nodes[i] as usize;
-        table[v] = x;
-        i += 1;
+    for &v in nodes {
+        table[v as usize] = x;
     }
 }
 
@@ -106,8 +104,7 @@ pub fn components(
     let dist = &mut distances[..n];
     let queue = &mut nodes[..n];
     fill(component_of, UNREACHED);
-    let mut f = 0;
-    while f < n {
+    for f in 0..n {
         number_from(
             masks,
             offsets,
@@ -119,7 +116,6 @@ pub fn components(
             component_of,
             sizes,
         );
-        f += 1;
     }
 }
 

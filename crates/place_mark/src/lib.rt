@@ -10,22 +10,20 @@ ghost use Rattle.table.specs.Fill.{marks_of, NodeList, table_at};
 ghost use Rattle.table.specs.Prepared.{tables, Ready};
 ghost use Rattle.place.specs.Bytes.{LinksFit, marked_ends, mark_start, link_marks};
 
-use graph::marked::fill;
+use base_lists::fill;
 use graph_neighbours::neighbours::{Direction, neighbours_in};
 use place::parts::driven_parts;
 use table_first::copy;
 
-// A byte for each node, 1 for those of the list.
+// A byte for each node, 1 for those of the list. (place_components stores numbers of 16 bits so: one function for both
+// would need `fill_at` over any type, and is no shorter than the loop.)
 fn mark_nodes(list: &[u16], bytes: &mut [u8])
     requires { Below (length bytes.old) list.now }
     ensures { bytes.new ≡ marks_of (length bytes.old) list.now }
 {
     fill(bytes, 0);
-    let mut i = 0;
-    while i < list.len() {
-        let v = list[i] as usize;
-        bytes[v] = 1;
-        i += 1;
+    for &v in list {
+        bytes[v as usize] = 1;
     }
 }
 
@@ -46,11 +44,8 @@ fn mark_ends(ends: &[u16], driven: u32, sets: &[u32], bytes: &mut [u8])
     ensures { bytes.new ≡ marked_ends driven sets.now ends.now
         bytes.old }
 {
-    let mut k = 0;
-    while k < ends.len() {
-        let w = ends[k] as usize;
-        bytes[k] = link_byte(driven, sets[w], bytes[k]);
-        k += 1;
+    for (k, &w) in ends.iter().enumerate() {
+        bytes[k] = link_byte(driven, sets[w as usize], bytes[k]);
     }
 }
 
@@ -94,11 +89,8 @@ fn mark_links(
         list.now }
 {
     fill(bytes, 0);
-    let mut i = 0;
-    while i < list.len() {
-        let v = list[i] as usize;
-        mark_start(masks, offsets, targets, sets, v, bytes);
-        i += 1;
+    for &v in list {
+        mark_start(masks, offsets, targets, sets, v as usize, bytes);
     }
 }
 

@@ -80,7 +80,7 @@ fn find_joined(
     let k = search(offsets, targets, c, n as u16, dist, queue);
     let p = start(&queue[..k], part_labels, node_labels, sets);
     let place = find(masks, offsets, targets, c, k, p, dist, queue, sets, spare);
-    place.found
+    place.size.is_some()
 }
 
 // Whether the place around the centre in a board has all the marked nodes and all links.

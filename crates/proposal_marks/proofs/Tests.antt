@@ -1,10 +1,10 @@
 -- The tests of the bytes, as the loops make them: what was seen at every index, or at one. Assumes nothing.
-use Rattle.std.specs.Prelude.{◌≡◌, ◌&&◌, ◌||◌, ◌≤◌, ◌<◌}
+use Rattle.std.specs.Prelude.{◌↔◌, IsTrue, EachIndex, ◌≡◌, ◌&&◌, ◌||◌, ◌≤◌, ◌<◌}
 use Rattle.base_lists.specs.Kit.{◌∙◌, sym, ap, refl, Bool, false, true, cond, not, List, ℕ, T, eqb, length, get_or, arith, eq-eqb, ne_eqb, eqb-true}
 use Rattle.base_lists.specs.List.{all_below}
 use Rattle.base_lists.proofs.Below.{all_below-same}
 use Rattle.base_lists.proofs.Tables.{get_d_tabulate}
-use Rattle.base_lists.proofs.Tests.{T_true, T_false, true-T, false-T, all_below-at, at-all_below, unless-at, at-unless}
+use Rattle.base_lists.proofs.Tests.{same_test, T_true, T_false, true-T, false-T, all_below-at, at-all_below, unless-at, at-unless}
 use Rattle.base_bits.specs.Bits.{intersects}
 use Rattle.graph.specs.Search.{far, inside}
 use Rattle.graph.proofs.Ball.{inside-below}
@@ -24,11 +24,8 @@ inside_one row v t = eqb-true (get_or row v 0) 1 (T_true {b = eqb (get_or row v 
 
 -- ---- every byte is 0 or 1
 
-pub bits-true : (bytes : List ℕ) → ((k : ℕ) → k < length bytes → get_or bytes k 0 ≤ 1) → true ≡ bits bytes
-bits-true bytes f = sym (T_true (at_bits bytes f))
-
-pub bits-false : (bytes : List ℕ) (i : ℕ) → i < length bytes → 1 < get_or bytes i 0 → false ≡ bits bytes
-bits-false bytes i h l = sym (T_false (λ t. let b : get_or bytes i 0 ≤ 1 = bits_at bytes t i h in omega arith))
+pub bits-same : (bytes : List ℕ) (b : Bool) → (IsTrue b ↔ EachIndex bytes (λ k. get_or bytes k 0 ≤ 1)) → b ≡ bits bytes
+bits-same bytes b f = same_test (λ t. at_bits bytes (f.0 (T_true t))) (λ t. true-T (f.1 (bits_at bytes t)))
 
 -- ---- every marked link has both its ends marked
 

@@ -15,14 +15,7 @@ use place::parts::driven_parts;
 fn bits(bytes: &[u8]) -> bool
     ensures { result ≡ bits bytes.now }
 {
-    let mut i = 0;
-    while i < bytes.len() {
-        if 1 < bytes[i] {
-            return false;
-        }
-        i += 1;
-    }
-    true
+    bytes.iter().all(|&byte| byte <= 1)
 }
 
 // Whether two nodes are both marked.
@@ -45,14 +38,10 @@ fn ends_marked(starts: &[u16], ends: &[u16], nodes: &[u8], link_bytes: &[u8]) ->
     ensures { result ≡ ends_marked starts.now ends.now nodes.now
         link_bytes.now }
 {
-    let mut i = 0;
-    while i < link_bytes.len() {
-        if link_bytes[i] == 1 {
-            if !both_marked(nodes, starts[i], ends[i]) {
-                return false;
-            }
+    for (i, &byte) in link_bytes.iter().enumerate() {
+        if byte == 1 && !both_marked(nodes, starts[i], ends[i]) {
+            return false;
         }
-        i += 1;
     }
     true
 }
@@ -89,14 +78,10 @@ pub fn in_row(dist: &[u16], nodes: &[u8]) -> bool
     requires { length nodes.now ≡ length dist.now }
     ensures { result ≡ in_row (bytes_of_nodes dist.now) nodes.now }
 {
-    let mut v = 0;
-    while v < nodes.len() {
-        if nodes[v] == 1 {
-            if dist[v] == UNREACHED {
-                return false;
-            }
+    for (v, &byte) in nodes.iter().enumerate() {
+        if byte == 1 && dist[v] == UNREACHED {
+            return false;
         }
-        v += 1;
     }
     true
 }
@@ -125,12 +110,10 @@ pub fn links_placed(masks: &[u32], starts: &[u16], ends: &[u16], dist: &[u16], s
         (inside (bytes_of_links starts.now ends.now (succ_of masks.now) dist.now
         sets.now)) }
 {
-    let mut i = 0;
-    while i < starts.len() {
-        if !link_placed(masks, dist, sets, starts[i], ends[i]) {
+    for (i, &start) in starts.iter().enumerate() {
+        if !link_placed(masks, dist, sets, start, ends[i]) {
             return false;
         }
-        i += 1;
     }
     true
 }

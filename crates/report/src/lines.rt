@@ -21,10 +21,8 @@ fn put_nodes(names: &[u32], dist: &[u16], out: &mut [u8], at: usize) -> usize
     ensures { Put out.old at (nodes_text dist.now) out.new result }
 {
     let mut end = at;
-    let mut v = 0;
-    while v < dist.len() {
+    for v in 0..dist.len() {
         end = put_node(names, dist, v, out, end);
-        v += 1;
     }
     end
 }
@@ -75,10 +73,8 @@ fn put_links(
     ensures { let text = links_text (tables masks.now offsets.now targets.now) dist.now sets.now in Put out.old at text out.new result }
 {
     let mut end = at;
-    let mut v = 0;
-    while v < dist.len() {
+    for v in 0..dist.len() {
         end = put_start(names, masks, offsets, targets, dist, sets, v, out, end);
-        v += 1;
     }
     end
 }

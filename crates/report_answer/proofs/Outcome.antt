@@ -1,5 +1,5 @@
 -- What the call on two files comes to, by cases: a piece that is put, a buffer that is too short; a refused file, or the lines. Assumes nothing.
-use Rattle.std.specs.Prelude.{◌≡◌, ◌≤◌, ◌<◌}
+use Rattle.std.specs.Prelude.{◌≡◌, ◌≤◌, ◌<◌, Ok, Err}
 use Rattle.base_lists.specs.Kit.{List, ℕ, zero-add, length, le-ltb, lt-ltb}
 use Rattle.base_text.proofs.Text.{put_whole}
 use Rattle.file_format.specs.declared.File.TheVariants.{Neither}
@@ -11,21 +11,18 @@ use Rattle.file_format.specs.Refusals.{accept, refuse, first, short_table}
 use Rattle.file_format.specs.Reply.{reply}
 use Rattle.report.specs.Lines.{longest_line, longest_refusal}
 use Rattle.report_pieces.specs.declared.PutPiece.{PutPiece}
-use Rattle.report_answer.specs.declared.ReportAnswer.{ReportAnswer}
-use Rattle.report_answer.specs.declared.ReportAnswer.TheVariants as answer
 use Rattle.report_answer.specs.Call.{files_verdict, piece_for, piece_of, report_reply, need_for, outcome_for, reporting}
 use Rattle.report_pieces.specs.Pieces.{Piece, lines_piece, refusal_piece, Wrote}
 
 -- ---- a piece
 
 module _ (need : ℕ) (p : Piece) (out : List ℕ) where
-  pub outcome-short : {a : ReportAnswer} → a ≡ answer.Refused (record { number = 8; file = Neither }) → length out < need
-      → record { reply = report_reply a; out = out } ≡ outcome_for need p out
+  pub outcome-short : length out < need → record { reply = report_reply (Err (record { number = 8; file = Neither })); out = out } ≡ outcome_for need p out
   unfolding outcome_for report_reply reply filled first short_table
-  outcome-short e h = rw (e, lt-ltb (length out) need h)
+  outcome-short h = rw (lt-ltb (length out) need h)
 
   pub outcome-put : {after : List ℕ} {part : PutPiece} → need ≤ length out → Wrote out p after part
-      → record { reply = report_reply (answer.Put part); out = after } ≡ outcome_for need p out
+      → record { reply = report_reply (Ok part); out = after } ≡ outcome_for need p out
   unfolding outcome_for report_reply reply filled first short_table
   outcome-put h w =
       rw (le-ltb (length out) need h, w.next, w.found, w.put.end, zero-add (length p.text), put_whole w.put w.fits)

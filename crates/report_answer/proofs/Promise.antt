@@ -1,6 +1,6 @@
 -- What the report call's promise means: calls one after another, each with a buffer of any length that holds the longest line, put the report,
 -- whole and once, and then nothing; only a shorter buffer is refused. Assumes nothing.
-use Rattle.std.specs.Prelude.{◌≡◌, ◌↔◌, ◌∷◌, ◌++◌, ◌≤◌, ◌<◌}
+use Rattle.std.specs.Prelude.{◌≡◌, ◌↔◌, ◌∷◌, ◌++◌, ◌≤◌, ◌<◌, Result, Ok, Err}
 use Rattle.base_lists.specs.Kit.{◌∙◌, sym, ap, refl, ap₂, List, [], ℕ, suc, zero, zero-le, le_refl, le_of_suc-le-suc, le_trans, le_antisymm, lt_of_not-le, lit≤, length, take, drop, length-append, take_at, drop_at, arith, le-ltb}
 use Rattle.file_format.specs.declared.File.TheVariants.{Neither}
 use Rattle.file_format.specs.declared.Refusal.{Refusal}
@@ -16,8 +16,6 @@ use Rattle.file_pair.specs.Pair.{pair_conditions}
 use Rattle.report.specs.Lines.{longest_line}
 use Rattle.report.specs.Report.{report_of}
 use Rattle.report_pieces.specs.declared.PutPiece.{PutPiece}
-use Rattle.report_answer.specs.declared.ReportAnswer.{ReportAnswer}
-use Rattle.report_answer.specs.declared.ReportAnswer.TheVariants as answer
 use Rattle.report_answer.specs.Call.{files_verdict, piece_of, report_reply, ReportOutcome, need_for, outcome_for, reporting}
 use Rattle.report_pieces.specs.Pieces.{Piece}
 use Rattle.report_answer.specs.Whole.{items_for, places_for, items_of, prefix_of, places_of, PieceFollows, piece_next, found_of, piece_size, piece_text, Stage, called}
@@ -26,21 +24,21 @@ use Rattle.report_answer.proofs.Whole.{piece-follows, piece-none, prefix-start, 
 -- ---- the two cases of the answer, told apart by what document 01 says of them
 
 pub reply-put :
-    (a : ReportAnswer) (next found size : ℕ) → report_reply a ≡ record { verdict = accept; values = next ∷ found ∷ size ∷ [] } →
-    a ≡ answer.Put (record { next = next; found = found; size = size })
+    (a : Result PutPiece Refusal) (next found size : ℕ) → report_reply a ≡ record { verdict = accept; values = next ∷ found ∷ size ∷ [] } →
+    a ≡ Ok (record { next = next; found = found; size = size })
 unfolding report_reply
-reply-put (answer.Put p) next found size e =
+reply-put (Ok p) next found size e =
     let v : p.next ∷ p.found ∷ p.size ∷ [] ≡ next ∷ found ∷ size ∷ [] = ap (λ (r : Reply). r.values) e in
     let a : p.next ≡ next = cc in
     let b : p.found ≡ found = cc in
     let c : p.size ≡ size = cc in
     rw (← a, ← b, ← c)
-reply-put (answer.Refused x) next found size e = let apart : refuse x ≡ accept = ap (λ (r : Reply). r.verdict) e in cc
+reply-put (Err x) next found size e = let apart : refuse x ≡ accept = ap (λ (r : Reply). r.verdict) e in cc
 
-pub reply-refused : (a : ReportAnswer) (x : Refusal) → (report_reply a).verdict ≡ refuse x → a ≡ answer.Refused x
+pub reply-refused : (a : Result PutPiece Refusal) (x : Refusal) → (report_reply a).verdict ≡ refuse x → a ≡ Err x
 unfolding report_reply
-reply-refused (answer.Put p) x e = cc
-reply-refused (answer.Refused y) x e = cc
+reply-refused (Ok p) x e = cc
+reply-refused (Err y) x e = cc
 
 -- a line of a refused file is no longer than the longest line
 pub need-most : (v : Verdict) → need_for v ≤ longest_line
@@ -201,7 +199,7 @@ module _ (pattern board : CircuitFile) (buffers : ℕ → List ℕ) (rooms : (k 
 module _
     (pattern board : CircuitFile) (from found : ℕ) (out : List ℕ) {after : List ℕ} (part : PutPiece)
     (room : longest_line ≤ length out)
-    (e : ◌≡◌ {A = ReportOutcome} (record { reply = report_reply (answer.Put part); out = after }) (reporting pattern board from found out))
+    (e : ◌≡◌ {A = ReportOutcome} (record { reply = report_reply (Ok part); out = after }) (reporting pattern board from found out))
   where
     -- the bytes that were put lie within it,
     pub put-within : part.size ≤ length after

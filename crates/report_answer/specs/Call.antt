@@ -1,12 +1,11 @@
 -- The report call, whole: its reply and the buffer's later content, from the inputs alone. A report may be far longer than a buffer, so it is
 -- put piece by piece: a call puts the lines of the centres from a centre on, as long as there is room for the longest line, and answers
 -- where to go on. proofs/Promise shows that the pieces, one after another, are the report.
-use Rattle.std.specs.Prelude.{◌∷◌}
+use Rattle.std.specs.Prelude.{◌∷◌, Result, Ok, Err}
 use Rattle.base_lists.specs.Kit.{List, [], ℕ, length}
 use Rattle.graph.specs.Circuit.{Circuit}
 use Rattle.file_format.specs.declared.Role.TheVariants.{Pattern}
-use Rattle.file_format.specs.declared.FileVerdict.{FileVerdict}
-use Rattle.file_format.specs.declared.FileVerdict.TheVariants as told
+use Rattle.file_format.specs.declared.Refusal.{Refusal}
 use Rattle.file_format.specs.Circuit.{circuit_of}
 use Rattle.file_format.specs.Layout.{CircuitFile}
 use Rattle.file_format.specs.Reading.{filled}
@@ -14,9 +13,8 @@ use Rattle.file_format.specs.Refusals.{Verdict, accept, refuse, first, short_tab
 use Rattle.file_format.specs.Reply.{Reply, reply}
 use Rattle.file_pair.specs.Pair.{pair_conditions}
 use Rattle.report.specs.Lines.{longest_line, longest_refusal}
+use Rattle.report_pieces.specs.declared.PutPiece.{PutPiece}
 use Rattle.report_pieces.specs.Pieces.{Piece, lines_piece, refusal_piece}
-use Rattle.report_answer.specs.declared.ReportAnswer.{ReportAnswer}
-use Rattle.report_answer.specs.declared.ReportAnswer.TheVariants as answer
 
 -- whether a file is refused; "the pattern's 1 to 6 before the board's"
 abbrev pub files_verdict : CircuitFile → CircuitFile → Verdict
@@ -33,9 +31,9 @@ piece_of pattern board from found room = piece_for (files_verdict pattern board)
 -- ---- the call
 
 -- number and values of each case of the answer: where to go on, how many centres had a place, and how many bytes were put
-unfoldable pub report_reply : ReportAnswer → Reply
-report_reply (answer.Put part) = record { verdict = accept; values = part.next ∷ part.found ∷ part.size ∷ [] }
-report_reply (answer.Refused x) = record { verdict = refuse x; values = [] }
+unfoldable pub report_reply : Result PutPiece Refusal → Reply
+report_reply (Ok part) = record { verdict = accept; values = part.next ∷ part.found ∷ part.size ∷ [] }
+report_reply (Err x) = record { verdict = refuse x; values = [] }
 
 -- the reply, and the buffer as the call leaves it
 pub record ReportOutcome : Type 0 where
@@ -52,11 +50,6 @@ unfoldable pub outcome_for : ℕ → Piece → List ℕ → ReportOutcome
 outcome_for need p out =
     let verdict = first (short_table need (length out) ∷ []) in
     record { reply = reply verdict (p.next ∷ p.found ∷ length p.text ∷ []); out = filled verdict p.text out }
-
--- what a verdict on the files comes to by itself: the line of a refused file, and of accepted ones nothing
-unfoldable pub outcome_by : FileVerdict → ℕ → ℕ → List ℕ → ReportOutcome
-outcome_by told.Accepted from found out = record { reply = record { verdict = accept; values = from ∷ found ∷ 0 ∷ [] }; out = out }
-outcome_by (told.Refused x) from found out = outcome_for longest_refusal (refusal_piece x from found) out
 
 -- "Rising numbers are the order": the files' conditions come before 8 here too, and what a refused file comes to is text. 8 is the only refusal. For the
 -- lines the room needed is a bound, as merging needs the first pattern's file length: 8 is then known without matching, and what does for

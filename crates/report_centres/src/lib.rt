@@ -114,6 +114,7 @@ pub fn put_lines(
     let mut count = resume.found as usize;
     let mut texts = [0u32; 2 * Board::MAX_NODES];
     let mut at = 0;
+    // A while: it ends sooner where no room is left, and a later piece goes on from the c that it ends with.
     while goes_on(c, n, at, out.len()) {
         let around = Around {
             centre: c as u16,

@@ -89,7 +89,7 @@ fn locate(
     let kept = ball.kept;
     if ball.all {
         mark(&queue[..kept], dist);
-        base_bits::copy(whole, sets);
+        base_lists::copy(whole, sets);
         return true;
     }
     let mut other = [0u32; Board::MAX_NODES];
@@ -107,7 +107,7 @@ fn locate(
         sets,
         spare,
     );
-    place.found
+    place.size.is_some()
 }
 
 // Where a line is to be put, and around which centre.

@@ -1,6 +1,6 @@
 -- Laws of a line's two parts, and of text that stands in a buffer: it stays where later text is put after it, and what was put is found there again. Assumes
 -- nothing.
-use Rattle.std.specs.Prelude.{◌≡◌, ◌++◌, ◌≤◌, ◌<◌, ◌+◌, ◌-◌}
+use Rattle.std.specs.Prelude.{◌≡◌, ◌++◌, ◌≤◌, ◌<◌, ◌+◌}
 use Rattle.base_lists.specs.Kit.{◌∙◌, sym, ap, refl, ap₂, List, ℕ, length, get_or, length-append, sets, arith, get_or-append-add}
 use Rattle.base_lists.specs.List.{part}
 use Rattle.base_lists.proofs.Tables.{is-tabulate, tabulate-same, get_d_sets_before, get_d_sets}
@@ -37,9 +37,6 @@ module _ {o after : List ℕ} {at past : ℕ} where
       part-entries from k after (rw (put-length p) l)
       ∙ tabulate-same k _ _ (λ i b. ap (λ (r : List ℕ). get_or r (from + i) 0) p.table ∙ get_d_sets_before xs o at (from + i) (omega arith))
       ∙ sym (part-entries from k o l)
-
-  pub put-entry : {xs : List ℕ} → Put o at xs after past → (j : ℕ) → j < at → get_or after j 0 ≡ get_or o j 0
-  put-entry {xs} p j h = ap (λ (r : List ℕ). get_or r j 0) p.table ∙ get_d_sets_before xs o at j h
 
   -- the second of two texts that were put stands after the first
   pub put_second : (xs ys : List ℕ) → Put o at (xs ++ ys) after past → at + length (xs ++ ys) ≤ length o → part (at + length xs) (length ys) after ≡ ys

@@ -3,11 +3,12 @@
 // follows is copied from where it stands in the buffer.
 #![tactic(auto)]
 
-ghost use Rattle.std.specs.Prelude.{cond, ◌++◌, ◌≡◌, ◌+◌, ◌-◌, ◌≤◌, ◌<◌, length, get_or};
+ghost use Rattle.std.specs.Prelude.{cond, ◌++◌, ◌≡◌, ◌+◌, ◌-◌, ◌≤◌, ◌<◌, length};
 ghost use Rattle.base_lists.specs.List.{Below, part};
 ghost use Rattle.base_text.specs.Text.{Put, Fits, Names};
 ghost use Rattle.report_texts.specs.Texts.{node_text, link_text, driven_text, head_text, under, noting};
 
+use base_lists::copy;
 use base_text::{put_byte, put_name, put_numbered};
 use file_format::Board;
 use graph::is_reached;
@@ -72,14 +73,6 @@ fn put_link(
     put_name(names, b'-', w, out, hyphen)
 }
 
-// The i-th node of a list.
-fn node_at(nodes: &[u16], i: usize) -> u16
-    requires { i < length nodes.now }
-    ensures { result ≡ get_or nodes.now i 0 }
-{
-    nodes[i]
-}
-
 // The links from v to the nodes of a list.
 pub fn put_driven(
     names: &[u32],
@@ -96,11 +89,9 @@ pub fn put_driven(
     ensures { let text = driven_text driven sets.now v nodes.now in Put out.old at text out.new result }
 {
     let mut end = at;
-    let mut i = 0;
-    while i < nodes.len() {
-        let w = node_at(nodes, i) as usize;
+    for &node in nodes {
+        let w = node as usize;
         end = put_link(names, driven, sets[w], v, w, out, end);
-        i += 1;
     }
     end
 }
@@ -110,14 +101,10 @@ pub fn put_copy(from: usize, to: usize, out: &mut [u8], at: usize) -> usize
     requires { (from ≤ to) × (to ≤ at) × (at + (to - from) ≤ length out.old) }
     ensures { Put out.old at (part from (to - from) out.old) out.new result }
 {
-    let mut end = at;
-    let mut i = from;
-    while i < to {
-        out[end] = out[i];
-        end += 1;
-        i += 1;
-    }
-    end
+    let size = to - from;
+    let (text, rest) = out.split_at_mut(at);
+    copy(&text[from..to], rest);
+    at + size
 }
 
 // Where text stands in the buffer: from `from` up to `to`. There is none where `to` is 0.

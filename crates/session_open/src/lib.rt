@@ -6,8 +6,9 @@ ghost use Rattle.base_lists.specs.List.{all, Below};
 ghost use Rattle.graph.specs.Net.{NetRoom};
 ghost use Rattle.session_open.specs.Open.{padded, LinksNumbered, Ended, Fixed};
 
+use base_lists::{copy, fill};
 use file_format::Board;
-use graph::{UNREACHED, copy, fill};
+use graph::UNREACHED;
 use graph_neighbours::tables::{FORWARD_TARGETS, group_both};
 use table::MASKS;
 use table_prepare::masks::pattern_masks;

@@ -194,49 +194,48 @@ module _ (masks : List ℕ) (moves : Direction → ℕ → List ℕ) where
 
 -- ---- the loop
 
-pub record Going (masks : List ℕ) (moves : Direction → ℕ → List ℕ) (sets₀ marks₀ sets marks : List ℕ) (j : ℕ) : Type 0 where
+pub record Going (masks : List ℕ) (moves : Direction → ℕ → List ℕ) (sets₀ marks₀ sets marks : List ℕ) : Type 0 where
   pub long : length sets ≡ length sets₀
   pub stands : Standing sets marks
-  pub first : j ≡ first_word marks
   pub leads : settled masks moves sets marks ≡ settled masks moves sets₀ marks₀
 
 module _ (masks : List ℕ) (moves : Direction → ℕ → List ℕ) where
-  pub going_start :
-      {sets marks : List ℕ} {j : ℕ} → length marks ≡ 16 → Words sets → Words marks → j ≡ first_word marks → Going masks moves sets marks sets marks j
-  going_start room in_sets in_marks first =
-      record { long = refl; stands = record { room = room; in_sets = in_sets; in_marks = in_marks }; first = first; leads = refl }
+  pub going_start : {sets marks : List ℕ} → length marks ≡ 16 → Words sets → Words marks → Going masks moves sets marks sets marks
+  going_start room in_sets in_marks =
+      record { long = refl; stands = record { room = room; in_sets = in_sets; in_marks = in_marks }; leads = refl }
 
-  module _ {sets₀ marks₀ sets marks : List ℕ} {j : ℕ} (g : Going masks moves sets₀ marks₀ sets marks j) where
-    more : j < 16 → first_word marks < 16
-    more h = omega (arith, g.first)
+  module _ {sets₀ marks₀ sets marks : List ℕ} (g : Going masks moves sets₀ marks₀ sets marks) where
+    -- j is the first word that marks a node
+    module _ {j : ℕ} (first : j ≡ first_word marks) (h : j < 16) where
+      more : first_word marks < 16
+      more = omega (arith, first)
 
-    pub going-word : j < 16 → zero < get_or marks j 0
-    going-word h = rw g.first (word_some masks moves g.stands (more h))
+      pub going-word : zero < get_or marks j 0
+      going-word = rw first (word_some masks moves g.stands more)
 
-    -- a mark is taken away, and its node looked at
-    module _ (h : j < 16) {taken sets' marks' : List ℕ} {v : ℕ} (m : (taken ≡ unmark marks j) × (v ≡ node_at marks j))
-        (looked : (sets' ≡ look_sets masks moves sets v) × (marks' ≡ look_marks masks moves sets taken v)) where
-      e : sets' ≡ look_sets masks moves sets (node_at marks j)
-      e = looked.0 ∙ ap (look_sets masks moves sets) m.1
+      -- a mark is taken away, and its node looked at
+      module _ {taken sets' marks' : List ℕ} {v : ℕ} (m : (taken ≡ unmark marks j) × (v ≡ node_at marks j))
+          (looked : (sets' ≡ look_sets masks moves sets v) × (marks' ≡ look_marks masks moves sets taken v)) where
+        e : sets' ≡ look_sets masks moves sets (node_at marks j)
+        e = looked.0 ∙ ap (look_sets masks moves sets) m.1
 
-      q : marks' ≡ look_marks masks moves sets (unmark marks j) (node_at marks j)
-      q = looked.1 ∙ ap₂ (look_marks masks moves sets) m.0 m.1
+        q : marks' ≡ look_marks masks moves sets (unmark marks j) (node_at marks j)
+        q = looked.1 ∙ ap₂ (look_marks masks moves sets) m.0 m.1
 
-      pub going_less : left sets' marks' < left sets marks
-      going_less = rw (e, q, g.first) (left_less masks moves g.stands (more h))
+        pub going_less : left sets' marks' < left sets marks
+        going_less = rw (e, q, first) (left_less masks moves g.stands more)
 
-      pub going_next : {j' : ℕ} → j' ≡ first_word marks' → Going masks moves sets₀ marks₀ sets' marks' j'
-      going_next f =
-          record {
-            long = ap length e ∙ length-look masks moves sets _ ∙ g.long;
-            stands = rw (e, q, g.first) (standing-next masks moves g.stands (more h));
-            first = f;
-            leads = rw (e, q, g.first) (settled-turn masks moves g.stands (more h)) ∙ g.leads;
-          }
+        pub going_next : Going masks moves sets₀ marks₀ sets' marks'
+        going_next =
+            record {
+              long = ap length e ∙ length-look masks moves sets _ ∙ g.long;
+              stands = rw (e, q, first) (standing-next masks moves g.stands more);
+              leads = rw (e, q, first) (settled-turn masks moves g.stands more) ∙ g.leads;
+            }
 
-    pub going_end : 16 ≤ j → sets ≡ settled masks moves sets₀ marks₀
+    pub going_end : first_word marks ≡ length marks → sets ≡ settled masks moves sets₀ marks₀
     unfolding settled
-    going_end done = sym (look-done masks moves _ sets marks (omega (arith, g.first))) ∙ g.leads
+    going_end done = sym (look-done masks moves _ sets marks (omega (arith, g.stands.room))) ∙ g.leads
 
 -- ---- where it leads
 

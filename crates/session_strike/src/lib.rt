@@ -3,7 +3,7 @@
 // as that of a link which is out.
 #![tactic(auto)]
 
-ghost use Rattle.std.specs.Prelude.{◌≡◌, ◌+◌, ◌*◌, ◌/◌, ◌≤◌, ◌<◌, length, get_or};
+ghost use Rattle.std.specs.Prelude.{◌≡◌, ◌+◌, ◌*◌, ◌/◌, ◌≤◌, ◌<◌, length, get_or, MatchOption};
 ghost use Rattle.base_bits.specs.Bits.{union_at};
 ghost use Rattle.graph.specs.Search.{far};
 ghost use Rattle.graph_neighbours.specs.Lookup.{neighbours_in};
@@ -35,26 +35,18 @@ fn links_of<'a>(direction: Direction, offsets: &[u16], numbers: &'a [u16], v: us
     )
 }
 
-// The other end of link j of some links: no node where the link is out.
-fn end_of(numbers: &[u16], ends: &[u16], j: usize) -> usize
-    requires { j < length numbers.now }
-    ensures { result ≡ get_or ends.now (get_or numbers.now j 0) far }
+// The other end of the link of a number: no node where the link is out.
+fn end_of(number: u16, ends: &[u16]) -> usize
+    ensures { result ≡ get_or ends.now number far }
 {
-    let i = numbers[j] as usize;
-    if ends.len() <= i {
-        return UNREACHED as usize;
-    }
-    ends[i] as usize
+    ends.get(number as usize).copied().unwrap_or(UNREACHED) as usize
 }
 
 // The set of node v: none where there is no such node.
 fn set_at(sets: &[u32], v: usize) -> u32
     ensures { result ≡ get_or sets.now v 0 }
 {
-    if sets.len() <= v {
-        return 0;
-    }
-    sets[v]
+    sets.get(v).copied().unwrap_or(0)
 }
 
 // The union of the sets at the other ends of some links.
@@ -62,10 +54,8 @@ fn reach(numbers: &[u16], ends: &[u16], sets: &[u32]) -> u32
     ensures { result ≡ union_at sets.now (beyond ends.now numbers.now) }
 {
     let mut union: u32 = 0;
-    let mut j = 0;
-    while j < numbers.len() {
-        union = union | set_at(sets, end_of(numbers, ends, j));
-        j += 1;
+    for &number in numbers {
+        union |= set_at(sets, end_of(number, ends));
     }
     union
 }
@@ -105,8 +95,7 @@ fn mark(marks: &mut [u32], v: usize)
     requires { v / 32 < length marks.old }
     ensures { marks.new ≡ mark marks.old v }
 {
-    let j = v / 32;
-    marks[j] = marks[j] | single((v % 32) as u32);
+    marks[v / 32] |= single((v % 32) as u32);
 }
 
 // Marks node w, where it is one of n nodes.
@@ -125,10 +114,8 @@ fn mark_ends(numbers: &[u16], ends: &[u16], n: usize, marks: &mut [u32])
     ensures { marks.new ≡ mark_all n marks.old
         (beyond ends.now numbers.now) }
 {
-    let mut j = 0;
-    while j < numbers.len() {
-        mark_one(n, end_of(numbers, ends, j), marks);
-        j += 1;
+    for &number in numbers {
+        mark_one(n, end_of(number, ends), marks);
     }
 }
 
@@ -188,18 +175,12 @@ fn look(
     }
 }
 
-// The first word that marks a node, or how many words there are.
-fn find(marks: &[u32]) -> usize
-    ensures { result ≡ first_word marks.now }
+// The first word that marks a node.
+fn find(marks: &[u32]) -> Option<usize>
+    ensures { MatchOption result (first_word marks.now ≡ length marks.now)
+        (λ j. (j ≡ first_word marks.now) × (j < length marks.now)) }
 {
-    let mut j = 0;
-    while j < marks.len() {
-        if marks[j] != 0 {
-            return j;
-        }
-        j += 1;
-    }
-    j
+    marks.iter().position(|&word| word != 0)
 }
 
 // Takes the first mark of word j away, and returns its node.
@@ -228,11 +209,10 @@ fn strike_marked(
         (moves_in offsets.now numbers.now ends.now) sets.old
         marks.old }
 {
-    let mut j = find(marks);
-    while j < MARKS {
+    // A while: a look may mark nodes again, so how many looks come is not known.
+    while let Some(j) = find(marks) {
         let v = unmark(marks, j);
         look(masks, offsets, numbers, ends, sets, marks, v);
-        j = find(marks);
     }
 }
 

@@ -1,12 +1,13 @@
 -- The numbers of a shelf and their text. Assumes nothing.
-use Rattle.std.specs.Prelude.{Bool, List, [], cond, drop, false, length, take, true, ℕ, ◌*◌, ◌∷◌, ◌≡◌, ◌≤◌}
+use Rattle.std.specs.Prelude.{Bool, List, [], cond, drop, false, length, take, true, ℕ, ◌*◌, ◌∷◌, ◌≡◌, ◌≤◌, Result, Ok}
 use Rattle.std.proofs.Common.{ap, arith, length-append, length-take-le, sym, take_all, take_at}
 use Rattle.std.proofs.Math.Path.{◌∙◌}
 use Rattle.base_text.specs.Text.{Put, Fits}
 use Rattle.base_text.proofs.Text.{put_whole}
+use Rattle.file_format.specs.declared.Refusal.{Refusal}
 use Rattle.file_format.specs.Reading.{filled}
 use Rattle.file_format.specs.Refusals.{Verdict, accept, refuse, first, short_table}
-use Rattle.file_format.specs.Reply.{Reply, reply}
+use Rattle.file_format.specs.Reply.{Reply, reply, number_reply}
 use Rattle.order.specs.Order.{is_less}
 use Rattle.order.proofs.Sorting.{length-sort}
 use Rattle.order.specs.Files.{compare_files}
@@ -14,14 +15,10 @@ use Rattle.call_shelf.specs.Strings.{cut_into}
 use Rattle.call_shelf.proofs.Cutting.{length_cut}
 use Rattle.call_shelf.specs.Text.{shelf_text}
 use Rattle.call_shelf.proofs.Text.{length-text}
-use Rattle.call_shelf.specs.declared.ShelfAnswer.{ShelfAnswer}
-use Rattle.call_shelf.specs.declared.ShelfAnswer.TheVariants.{Ordered}
-use Rattle.shelf_files.specs.declared.Taken.{Taken}
-use Rattle.shelf_files.specs.declared.Taken.TheVariants as taken
-use Rattle.shelf_files.specs.Reading.{shelf_end}
+use Rattle.shelf_files.specs.Reading.{Taken, shelf_end}
 use Rattle.shelf_files.proofs.Reading.{few-files}
 use Rattle.shelf.specs.Printing.{shelf_text_of, printed_at, printed_of, ShelfHanded, shelf_ended, ShelfRan}
-use Rattle.call_shelf.specs.Shelf.{most_files, file_at, accepted_in, shelf_of, shelf_reply, ShelfOutcome, shelving_of, shelving}
+use Rattle.call_shelf.specs.Shelf.{most_files, file_at, accepted_in, shelf_of, ShelfOutcome, shelving_of, shelving}
 
 -- as many numbers as files, at most
 pub ordered-few : (bytes lengths : List ℕ) → length (shelf_of (cut_into bytes lengths)) ≤ length lengths
@@ -31,10 +28,10 @@ ordered-few bytes lengths =
     omega (arith, length-sort (accepted_in files) (λ i j. is_less (compare_files (file_at files i) (file_at files j))) (length files), length_cut bytes lengths)
 
 -- an accepted call: the numbers stand at the front of the table
-pub ordered-numbers : (bytes lengths order after : List ℕ) (answer : ShelfAnswer) → length lengths ≤ 16
-    → record { reply = shelf_reply answer; order = after } ≡ shelving bytes lengths order → (count : ℕ) → answer ≡ Ordered count
+pub ordered-numbers : (bytes lengths order after : List ℕ) (answer : Result ℕ Refusal) → length lengths ≤ 16
+    → record { reply = number_reply answer; order = after } ≡ shelving bytes lengths order → (count : ℕ) → answer ≡ Ok count
     → (count ≡ length (shelf_of (cut_into bytes lengths))) × (take count after ≡ shelf_of (cut_into bytes lengths))
-unfolding shelving shelving_of shelf_reply reply filled
+unfolding shelving shelving_of number_reply reply filled
 ordered-numbers bytes lengths order after answer few e count is =
     go (first (short_table (length numbers) (length order) ∷ [])) (rw (take_all 16 lengths few) at (ap (λ (o : ShelfOutcome). o.reply) (rw is at e))) (rw (take_all 16 lengths few) at (ap (λ (o : ShelfOutcome). o.order) e))
   where
@@ -65,8 +62,8 @@ module _ {out after text : List ℕ} {size : ℕ} (p : Put out 0 text after size
 
 -- ---- the call's answer, on the files that were read
 
-module _ (bytes notes order after : List ℕ) (count ordered : ℕ) (answer : ShelfAnswer) (n : length notes ≡ most_files) (e : shelf_end notes ≡ taken.Files count)
-    (a : record { reply = shelf_reply answer; order = after } ≡ shelving bytes (take count notes) order) (is : answer ≡ Ordered ordered) where
+module _ (bytes notes order after : List ℕ) (count ordered : ℕ) (answer : Result ℕ Refusal) (n : length notes ≡ most_files) (e : shelf_end notes ≡ Ok count)
+    (a : record { reply = number_reply answer; order = after } ≡ shelving bytes (take count notes) order) (is : answer ≡ Ok ordered) where
   sixteen : length (take count notes) ≤ 16
   sixteen = let read = few-files notes count e in omega (arith, n, length-take-le count notes read)
 
@@ -100,7 +97,7 @@ handed-prefix text out size k true e s h = (h ∙ ap length e, ap (λ (n : ℕ).
 handed-prefix text out size k false e s h = h
 
 -- how a run ends in which so many files were read
-pub ran-begun : (bytes notes out : List ℕ) (k count : ℕ) (whole : Bool) → shelf_end notes ≡ taken.Files count → ShelfHanded (printed_of bytes notes) out k whole
+pub ran-begun : (bytes notes out : List ℕ) (k count : ℕ) (whole : Bool) → shelf_end notes ≡ Ok count → ShelfHanded (printed_of bytes notes) out k whole
     → ShelfRan bytes notes out k (shelf_ended count whole)
 unfolding ShelfRan shelf_ended
 ran-begun bytes notes out k count true e h = (e, h)

@@ -1,9 +1,9 @@
 -- A folder, and what is to be printed in it: from the files' bytes alone.
-use Rattle.std.specs.Prelude.{Bool, true, false, cond, List, [], ◌∷◌, ◌≡◌, ℕ, length, take, drop}
+use Rattle.std.specs.Prelude.{Err, Bool, true, false, cond, List, [], ◌∷◌, ◌≡◌, ℕ, length, take, drop}
 use Rattle.file_format.specs.declared.Edition.TheVariants.{Second}
 use Rattle.file_format.specs.declared.Role.TheVariants.{Pattern}
 use Rattle.file_format.specs.Cut.{cut}
-use Rattle.input.specs.declared.FileFound.TheVariants as found
+use Rattle.input.specs.declared.ReadError.TheVariants.{Absent, Unreadable}
 use Rattle.shelf_files.specs.Reading.{noted}
 use Rattle.shelf.specs.Printing.{shelf_text_of}
 
@@ -38,5 +38,5 @@ FolderTold [] (note ∷ notes) bytes = ⊥
 FolderTold (entry ∷ later) [] bytes = ⊥
 FolderTold (file content ∷ later) (note ∷ notes) bytes =
     (note ≡ length (cut Second Pattern content)) × (take note bytes ≡ cut Second Pattern content) × FolderTold later notes (drop note bytes)
-FolderTold (absent ∷ later) (note ∷ notes) bytes = note ≡ noted found.Absent
-FolderTold (unreadable ∷ later) (note ∷ notes) bytes = note ≡ noted found.Unreadable
+FolderTold (absent ∷ later) (note ∷ notes) bytes = note ≡ noted (Err Absent)
+FolderTold (unreadable ∷ later) (note ∷ notes) bytes = note ≡ noted (Err Unreadable)

@@ -5,20 +5,18 @@
 // them.
 #![tactic(auto)]
 
-ghost use Rattle.std.specs.Prelude.{cond, ◌≡◌, ◌*◌, ◌≤◌, length};
+ghost use Rattle.std.specs.Prelude.{Ok, cond, ◌≡◌, ◌*◌, ◌≤◌, length};
 ghost use Rattle.call_shelf.specs.Shelf.{most_files};
-ghost use Rattle.shelf_files.specs.declared.Taken.TheVariants as taken;
 ghost use Rattle.shelf.specs.Printing.{printed_of, ShelfHanded, shelf_ended, ShelfRan};
 ghost use Rattle.shelf_files.specs.Reading.{most_bytes, shelf_end};
 
-use call_shelf::{FILES, ShelfAnswer};
-use shelf_files::{SHELF_BYTES, Taken, cannot_read, read_all};
+use call_shelf::FILES;
+use shelf_files::{SHELF_BYTES, UnreadableFile, cannot_read, read_all};
 
-// How a run ended: so many files were read and their lines handed whole to standard output; or a write failed; or the
-// file of this number cannot be read.
-#[derive(Clone, Copy)]
-enum End {
-    Whole(usize),
+// Why the lines were not handed whole to standard output: a write failed, after so many files were read; or the file of
+// this number cannot be read.
+#[derive(Clone, Copy, Debug, PartialEq, Eq)]
+enum ShelfError {
     Broken(usize),
     NoFile(usize),
 }
@@ -51,12 +49,11 @@ fn print_shelf(
     out: &mut [u8],
     handed: &mut usize,
 ) -> bool
-    requires notes_len { (length notes.now ≡ most_files) × (shelf_end notes.now ≡ taken.Files count) }
+    requires notes_len { (length notes.now ≡ most_files) × (shelf_end notes.now ≡ Ok count) }
     requires most_files_in_bounds { (most_files ≤ length order.old) × (3 * most_files ≤ length out.old) × (handed.old ≡ 0) }
     ensures { let text = printed_of bytes.now notes.now in ShelfHanded text out.new handed.new result }
 {
-    let answer = call_shelf::shelf(bytes, &notes[..count], order);
-    let ShelfAnswer::Ordered(ordered) = answer else {
+    let Ok(ordered) = call_shelf::shelf(bytes, &notes[..count], order) else {
         return false;
     };
     let size = call_shelf::lines::put_numbers(&order[..ordered], out);
@@ -65,17 +62,18 @@ fn print_shelf(
 
 // How a run ends in which so many files were read, and tells where their lines are not whole.
 #[tactic(auto, unfolding(crate::specs::Printing::shelf_ended))]
-fn ended(rt: &HostRuntime, failure: i32, count: usize, whole: bool) -> End
+fn ended(rt: &HostRuntime, failure: i32, count: usize, whole: bool) -> Result<usize, ShelfError>
     ensures { result ≡ shelf_ended count whole }
 {
     if whole {
-        return End::Whole(count);
+        return Ok(count);
     }
     output::fail(rt, "the list is not whole", failure);
-    End::Broken(count)
+    Err(ShelfError::Broken(count))
 }
 
-// Reads the shelf and prints its order, by way of tables that are lent whole.
+// Reads the shelf and prints its order, by way of tables that are lent whole. The answer is how many files were read;
+// what went wrong has been told.
 fn shelve(
     rt: &HostRuntime,
     bytes: &mut [u8],
@@ -83,21 +81,21 @@ fn shelve(
     order: &mut [u8],
     out: &mut [u8],
     handed: &mut usize,
-) -> End
+) -> Result<usize, ShelfError>
     requires most_bytes_in_bounds { (most_files * most_bytes ≤ length bytes.old) × (length notes.old ≡ most_files) }
     requires most_files_in_bounds { (most_files ≤ length order.old) × (3 * most_files ≤ length out.old) × (handed.old ≡ 0) }
     ensures { ShelfRan bytes.new notes.new out.new handed.new result }
 {
     let taken = read_all(rt, bytes, notes);
     match taken {
-        Taken::Files(count) => {
+        Ok(count) => {
             let mut failure: i32 = 0;
             let whole = print_shelf(rt, &mut failure, bytes, notes, count, order, out, handed);
             ended(rt, failure, count, whole)
         }
-        Taken::Unreadable(i) => {
+        Err(UnreadableFile(i)) => {
             cannot_read(rt, i);
-            End::NoFile(i)
+            Err(ShelfError::NoFile(i))
         }
     }
 }
@@ -119,7 +117,7 @@ fn main(rt: HostRuntime) {
     let mut order = [0u8; FILES];
     let mut out = [0u8; 3 * FILES];
     let mut handed: usize = 0;
-    shelve(
+    let _ended = shelve(
         &rt,
         &mut bytes,
         &mut notes,

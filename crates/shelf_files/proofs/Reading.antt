@@ -1,34 +1,30 @@
 -- What was read and noted, file by file, and how the reading ends. Assumes nothing.
-use Rattle.std.proofs.Common.{List, [], ◌∷◌, ◌++◌, ◌≡◌, refl, sym, ap, subst, ℕ, zero, suc, ◌+◌, ◌/◌, ◌%◌, ◌<◌, ◌≤◌, le_of_eq, zero-add, add-one, arith, ne_eqb, length, take, drop, set, length-take-le, take_all, take-suc-set}
+use Rattle.std.proofs.Common.{Ok, Err, List, [], ◌∷◌, ◌++◌, ◌≡◌, refl, sym, ap, subst, ℕ, zero, suc, ◌+◌, ◌/◌, ◌%◌, ◌<◌, ◌≤◌, le_of_eq, zero-add, add-one, arith, ne_eqb, length, take, drop, set, length-take-le, take_all, take-suc-set}
 use Rattle.std.proofs.Math.Path.{ap₂, ◌∙◌}
 use mathlib.Core.List.{append-nil, map-append}
 use Rattle.std.proofs.lemmas.List.{length-map, set_split}
-use Rattle.input.specs.declared.FileFound.{FileFound}
-use Rattle.input.specs.declared.FileFound.TheVariants as found
+use Rattle.input.specs.declared.ReadError.TheVariants.{Absent, Unreadable}
 use Rattle.shelf_files.specs.declared.Next.{Next}
 use Rattle.shelf_files.specs.declared.Next.TheVariants as next
-use Rattle.shelf_files.specs.declared.Taken.{Taken}
-use Rattle.shelf_files.specs.declared.Taken.TheVariants as taken
-use Rattle.input.specs.Reading.{Within}
+use Rattle.input.specs.Reading.{FileFound, Within}
 use Rattle.std.specs.Str.{IsAscii, IsUtf8}
 use Rattle.std.proofs.lemmas.Str.{IsUtf8-from_ascii}
 use Rattle.std.proofs.lemmas.Str.Ascii.{IsAscii-nil}
-use Rattle.shelf_files.specs.Reading.{shelf_name_of, most_bytes, noted, note_means, answers, next_after, going_on, standing, FileReached, end_from, shelf_end}
+use Rattle.shelf_files.specs.Reading.{shelf_name_of, most_bytes, noted, note_means, answers, next_after, going_on, standing, FileReached, Taken, end_from, shelf_end}
 
 -- ---- the notes
 
 -- a note says what was noted
 pub answered-noted : (x : FileFound) → Within most_bytes x → note_means (noted x) ≡ x
 unfolding note_means
-answered-noted (found.Bytes size) w = rw (ne_eqb size 65536 (λ e. omega (arith, e)), ne_eqb size 65537 (λ e. omega (arith, e))) refl
-answered-noted found.Absent w = refl
-answered-noted found.Unreadable w = refl
+answered-noted (Ok size) w = rw (ne_eqb size 65536 (λ e. omega (arith, e)), ne_eqb size 65537 (λ e. omega (arith, e))) refl
+answered-noted (Err Absent) w = refl
+answered-noted (Err Unreadable) w = refl
 
 -- where less has room, more has
 pub within_more : (x : FileFound) (a b : ℕ) → a ≤ b → Within a x → Within b x
-within_more (found.Bytes size) a b h w = omega arith
-within_more found.Absent a b h w = tt
-within_more found.Unreadable a b h w = tt
+within_more (Ok size) a b h w = omega arith
+within_more (Err error) a b h w = tt
 
 -- ---- the names
 
@@ -90,13 +86,13 @@ given-up (x ∷ xs) = given-up xs
 counted : (k at past : ℕ) (xs later : List FileFound) → standing (next.Further at) xs ≡ next.Further past → end_from k (xs ++ later) ≡ end_from (k + length xs) later
 unfolding standing going_on end_from
 counted k at past [] later e = let same : k ≡ k + 0 = omega arith in ap (λ (n : ℕ). end_from n later) same
-counted k at past (found.Bytes size ∷ xs) later e =
+counted k at past (Ok size ∷ xs) later e =
     let same : suc k + length xs ≡ k + suc (length xs) = omega arith in
     counted (suc k) (at + size) past xs later e ∙ ap (λ (n : ℕ). end_from n later) same
-counted k at past (found.Absent ∷ xs) later e =
+counted k at past (Err Absent ∷ xs) later e =
     let no : next.Ends ≡ next.Further past = sym (ended xs) ∙ e in
     let z : ◌≡◌ {A = ℕ} 0 1 = cc in absurd (omega arith)
-counted k at past (found.Unreadable ∷ xs) later e =
+counted k at past (Err Unreadable ∷ xs) later e =
     let no : next.GivesUp ≡ next.Further past = sym (given-up xs) ∙ e in
     let z : ◌≡◌ {A = ℕ} 0 1 = cc in absurd (omega arith)
 
@@ -115,56 +111,56 @@ module _ (notes : List ℕ) (i at : ℕ) (x : FileFound) (h : i < length notes) 
 
 -- it ends at the first that is absent,
 pub absent-ends : (notes : List ℕ) (i at : ℕ) (x : FileFound) → i < length notes → Within most_bytes x → FileReached notes i at → next_after x at ≡ next.Ends
-    → taken.Files i ≡ shelf_end (set notes i (noted x))
+    → Ok i ≡ shelf_end (set notes i (noted x))
 unfolding end_from
-absent-ends notes i at (found.Bytes size) h w r e = let z : ◌≡◌ {A = ℕ} 0 1 = cc in absurd (omega arith)
-absent-ends notes i at found.Absent h w r e = sym (ends-from notes i at found.Absent h w r)
-absent-ends notes i at found.Unreadable h w r e = let z : ◌≡◌ {A = ℕ} 0 1 = cc in absurd (omega arith)
+absent-ends notes i at (Ok size) h w r e = let z : ◌≡◌ {A = ℕ} 0 1 = cc in absurd (omega arith)
+absent-ends notes i at (Err Absent) h w r e = sym (ends-from notes i at (Err Absent) h w r)
+absent-ends notes i at (Err Unreadable) h w r e = let z : ◌≡◌ {A = ℕ} 0 1 = cc in absurd (omega arith)
 
 -- or that cannot be read,
 pub unreadable-ends : (notes : List ℕ) (i at : ℕ) (x : FileFound) → i < length notes → Within most_bytes x → FileReached notes i at → next_after x at ≡ next.GivesUp
-    → taken.Unreadable i ≡ shelf_end (set notes i (noted x))
+    → Err (record { 0 = i }) ≡ shelf_end (set notes i (noted x))
 unfolding end_from
-unreadable-ends notes i at (found.Bytes size) h w r e = let z : ◌≡◌ {A = ℕ} 0 1 = cc in absurd (omega arith)
-unreadable-ends notes i at found.Absent h w r e = let z : ◌≡◌ {A = ℕ} 0 1 = cc in absurd (omega arith)
-unreadable-ends notes i at found.Unreadable h w r e = sym (ends-from notes i at found.Unreadable h w r)
+unreadable-ends notes i at (Ok size) h w r e = let z : ◌≡◌ {A = ℕ} 0 1 = cc in absurd (omega arith)
+unreadable-ends notes i at (Err Absent) h w r e = let z : ◌≡◌ {A = ℕ} 0 1 = cc in absurd (omega arith)
+unreadable-ends notes i at (Err Unreadable) h w r e = sym (ends-from notes i at (Err Unreadable) h w r)
 
 -- or after the last
-pub all_read : (notes : List ℕ) (i at : ℕ) → length notes ≡ i → FileReached notes i at → taken.Files i ≡ shelf_end notes
+pub all_read : (notes : List ℕ) (i at : ℕ) → length notes ≡ i → FileReached notes i at → Ok i ≡ shelf_end notes
 unfolding FileReached end_from
 all_read notes i at n r =
     let prefix : take i notes ≡ notes = take_all i notes (le_of_eq n) in
-    ap taken.Files (sym n ∙ sym (length-map notes note_means) ∙ ap (λ (l : List ℕ). length (answers l)) (sym prefix) ∙ sym (zero-add (length (answers (take i notes)))))
+    ap Ok (sym n ∙ sym (length-map notes note_means) ∙ ap (λ (l : List ℕ). length (answers l)) (sym prefix) ∙ sym (zero-add (length (answers (take i notes)))))
     ∙ sym (counted 0 0 at (answers (take i notes)) [] r)
     ∙ ap (end_from 0) (append-nil (answers (take i notes)) ∙ ap answers prefix)
 
 -- ---- how many there are
 
 abbrev Under : ℕ → Taken → Type 0
-Under n (taken.Files count) = count ≤ n
-Under n (taken.Unreadable i) = i < n
+Under n (Ok count) = count ≤ n
+Under n (Err file) = file.0 < n
 
 end-under : (k : ℕ) (xs : List FileFound) → Under (k + length xs) (end_from k xs)
 unfolding end_from
 end-under k [] = omega arith
-end-under k (found.Bytes size ∷ xs) =
+end-under k (Ok size ∷ xs) =
     let same : suc k + length xs ≡ k + suc (length xs) = omega arith in
     subst (λ (n : ℕ). Under n (end_from (suc k) xs)) same (end-under (suc k) xs)
-end-under k (found.Absent ∷ xs) = omega arith
-end-under k (found.Unreadable ∷ xs) = omega arith
+end-under k (Err Absent ∷ xs) = omega arith
+end-under k (Err Unreadable ∷ xs) = omega arith
 
 notes-under : (notes : List ℕ) (end : Taken) → shelf_end notes ≡ end → Under (length notes) end
 notes-under notes end e = subst (λ (n : ℕ). Under n end) (zero-add (length (answers notes)) ∙ length-map notes note_means) (subst (Under (0 + length (answers notes))) e (end-under 0 (answers notes)))
 
-pub few-files : (notes : List ℕ) (count : ℕ) → shelf_end notes ≡ taken.Files count → count ≤ length notes
-few-files notes count e = notes-under notes (taken.Files count) e
+pub few-files : (notes : List ℕ) (count : ℕ) → shelf_end notes ≡ Ok count → count ≤ length notes
+few-files notes count e = notes-under notes (Ok count) e
 
-pub unreadable-under : (notes : List ℕ) (i : ℕ) → shelf_end notes ≡ taken.Unreadable i → i < length notes
-unreadable-under notes i e = notes-under notes (taken.Unreadable i) e
+pub unreadable-under : (notes : List ℕ) (i : ℕ) → shelf_end notes ≡ Err (record { 0 = i }) → i < length notes
+unreadable-under notes i e = notes-under notes (Err (record { 0 = i })) e
 
 -- ---- where the next file goes
 
 pub further-place : (x : FileFound) (at past : ℕ) → Within most_bytes x → next_after x at ≡ next.Further past → past ≤ at + most_bytes
-further-place (found.Bytes size) at past w e = let same : at + size ≡ past = cc in omega (arith, same, w)
-further-place found.Absent at past w e = let z : ◌≡◌ {A = ℕ} 0 1 = cc in absurd (omega arith)
-further-place found.Unreadable at past w e = let z : ◌≡◌ {A = ℕ} 0 1 = cc in absurd (omega arith)
+further-place (Ok size) at past w e = let same : at + size ≡ past = cc in omega (arith, same, w)
+further-place (Err Absent) at past w e = let z : ◌≡◌ {A = ℕ} 0 1 = cc in absurd (omega arith)
+further-place (Err Unreadable) at past w e = let z : ◌≡◌ {A = ℕ} 0 1 = cc in absurd (omega arith)

@@ -1,14 +1,13 @@
 -- How the files of the shelf are read: one after another, from what becomes of each. (document 02, a shelf in order)
-use Rattle.std.specs.Prelude.{cond, List, [], ◌∷◌, map, ◌≡◌, ℕ, suc, ◌+◌, ◌/◌, ◌%◌, eqb, take}
+use Rattle.std.specs.Prelude.{Result, Ok, Err, cond, List, [], ◌∷◌, map, ◌≡◌, ℕ, suc, ◌+◌, ◌/◌, ◌%◌, eqb, take}
 use Rattle.file_format.specs.declared.Edition.TheVariants.{Second}
 use Rattle.file_format.specs.declared.Role.TheVariants.{Pattern}
 use Rattle.file_format.specs.Cut.{most, cut}
-use Rattle.input.specs.declared.FileFound.{FileFound}
-use Rattle.input.specs.declared.FileFound.TheVariants as found
+use Rattle.input.specs.declared.ReadError.TheVariants.{Absent, Unreadable}
+use Rattle.input.specs.Reading.{FileFound}
 use Rattle.shelf_files.specs.declared.Next.{Next}
 use Rattle.shelf_files.specs.declared.Next.TheVariants as next
-use Rattle.shelf_files.specs.declared.Taken.{Taken}
-use Rattle.shelf_files.specs.declared.Taken.TheVariants as taken
+use Rattle.shelf_files.specs.declared.UnreadableFile.{UnreadableFile}
 
 -- "named `p00.cir` to `p15.cir`": two digits, 48 being the byte of 0
 abbrev pub shelf_name_of : ℕ → List ℕ
@@ -25,13 +24,13 @@ cut_each files = map (cut Second Pattern) files
 -- ---- the notes: what became of each file, as a number
 
 abbrev pub noted : FileFound → ℕ
-noted (found.Bytes size) = size
-noted found.Absent = 65536
-noted found.Unreadable = 65537
+noted (Ok size) = size
+noted (Err Absent) = 65536
+noted (Err Unreadable) = 65537
 
 -- what a note says
 unfoldable pub note_means : ℕ → FileFound
-note_means note = cond (eqb note 65536) found.Absent (cond (eqb note 65537) found.Unreadable (found.Bytes note))
+note_means note = cond (eqb note 65536) (Err Absent) (cond (eqb note 65537) (Err Unreadable) (Ok note))
 
 abbrev pub answers : List ℕ → List FileFound
 answers notes = map note_means notes
@@ -40,9 +39,9 @@ answers notes = map note_means notes
 
 -- the next file's bytes go behind those of this one
 abbrev pub next_after : FileFound → ℕ → Next
-next_after (found.Bytes size) at = next.Further (at + size)
-next_after found.Absent at = next.Ends
-next_after found.Unreadable at = next.GivesUp
+next_after (Ok size) at = next.Further (at + size)
+next_after (Err Absent) at = next.Ends
+next_after (Err Unreadable) at = next.GivesUp
 
 -- after a file more
 unfoldable pub going_on : Next → FileFound → Next
@@ -59,13 +58,17 @@ standing here (x ∷ xs) = standing (going_on here x) xs
 unfoldable pub FileReached : List ℕ → ℕ → ℕ → Type 0
 FileReached notes i at = standing (next.Further 0) (answers (take i notes)) ≡ next.Further at
 
+-- how it ended: so many files were read, or the one of this number could not be
+abbrev pub Taken : Type 0
+Taken = Result ℕ UnreadableFile
+
 -- "reads up to 16 .. files .., stops at the first absent one": how many are read, from what becomes of each, the first of these being the i-th. Those
 -- after the first that is absent, or that cannot be read, do not count. A file of 0 bytes is there.
 unfoldable pub end_from : ℕ → List FileFound → Taken
-end_from i [] = taken.Files i
-end_from i (found.Bytes size ∷ later) = end_from (suc i) later
-end_from i (found.Absent ∷ later) = taken.Files i
-end_from i (found.Unreadable ∷ later) = taken.Unreadable i
+end_from i [] = Ok i
+end_from i (Ok size ∷ later) = end_from (suc i) later
+end_from i (Err Absent ∷ later) = Ok i
+end_from i (Err Unreadable ∷ later) = Err (record { 0 = i })
 
 abbrev pub shelf_end : List ℕ → Taken
 shelf_end notes = end_from 0 (answers notes)

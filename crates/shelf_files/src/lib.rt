@@ -10,7 +10,7 @@ ghost use Rattle.shelf_files.specs.Reading.{shelf_name_of, most_bytes, noted, ne
 
 use call_shelf::FILES;
 use file_format::Pattern;
-use input::FileFound;
+use input::ReadError;
 use std::str;
 
 // A byte more than the longest second-edition pattern that is accepted: so that a longer file is refused by its length.
@@ -19,6 +19,7 @@ const FILE_BYTES: usize = 4 + 4 * Pattern::MAX_NODES + 4 * Pattern::MAX_LINKS + 
 pub const SHELF_BYTES: usize = FILES * FILE_BYTES;
 
 // What is noted of a file that is absent, and of one that cannot be read; of any other it is how many bytes were read.
+// (Numbers and no Result: the notes are the lengths by which the shelf's bytes are told apart.)
 const ABSENT: u32 = 65536;
 
 const UNREADABLE: u32 = 65537;
@@ -32,12 +33,9 @@ enum Next {
     GivesUp,
 }
 
-// How many files were read, or that the one of this number could not be.
+// The file of this number is there and cannot be read.
 #[derive(Clone, Copy)]
-pub enum Taken {
-    Files(usize),
-    Unreadable(usize),
-}
+pub struct UnreadableFile(pub usize);
 
 // The name of the i-th file: its two digits.
 fn name_of(i: usize) -> [u8; 7]
@@ -65,7 +63,7 @@ fn text_of(name: &[u8]) -> &str
 }
 
 // The bytes of the i-th file, by its name.
-fn load_named(rt: &HostRuntime, i: usize, name: &str, buf: &mut [u8]) -> FileFound
+fn load_named(rt: &HostRuntime, i: usize, name: &str, buf: &mut [u8]) -> Result<usize, ReadError>
     requires { name.now ≡ shelf_name_of i }
     ensures { Within (length buf.new) result }
 {
@@ -74,7 +72,7 @@ fn load_named(rt: &HostRuntime, i: usize, name: &str, buf: &mut [u8]) -> FileFou
 
 // The bytes of the i-th file.
 #[tactic(auto, using(crate::proofs::Reading::name_ascii))]
-fn load(rt: &HostRuntime, i: usize, buf: &mut [u8]) -> FileFound
+fn load(rt: &HostRuntime, i: usize, buf: &mut [u8]) -> Result<usize, ReadError>
     requires { i < 100 }
     ensures { Within (length buf.new) result }
 {
@@ -83,21 +81,27 @@ fn load(rt: &HostRuntime, i: usize, buf: &mut [u8]) -> FileFound
 }
 
 // What is noted of a file.
-fn note_file(found: FileFound) -> u32
+fn note_file(found: Result<usize, ReadError>) -> u32
     requires { Within most_bytes found }
     ensures { result ≡ noted found }
 {
     match found {
-        FileFound::Bytes(size) => size as u32,
-        FileFound::Absent => ABSENT,
-        FileFound::Unreadable => UNREADABLE,
+        Ok(size) => size as u32,
+        Err(ReadError::Absent) => ABSENT,
+        Err(ReadError::Unreadable) => UNREADABLE,
     }
 }
 
 // Reads the i-th file to a place of the bytes, behind those of the files before it, and notes what became of it. All of
 // those are there, and their bytes stay.
 #[tactic(auto, using(crate::proofs::Reading::within_more))]
-fn read_one(rt: &HostRuntime, i: usize, at: usize, bytes: &mut [u8], notes: &mut [u32]) -> FileFound
+fn read_one(
+    rt: &HostRuntime,
+    i: usize,
+    at: usize,
+    bytes: &mut [u8],
+    notes: &mut [u32],
+) -> Result<usize, ReadError>
     requires i_in_bounds { (i < length notes.old) × (i < 100) × (at ≤ 65536) × (at + most_bytes ≤ length bytes.old) }
     requires file_reached { FileReached notes.old i at }
     ensures within { Within most_bytes result × (notes.new ≡ set notes.old i (noted result)) }
@@ -110,37 +114,40 @@ fn read_one(rt: &HostRuntime, i: usize, at: usize, bytes: &mut [u8], notes: &mut
 }
 
 // How the reading goes on: it ends at the first file that is absent.
-fn after(found: FileFound, at: usize) -> Next
+fn after(found: Result<usize, ReadError>, at: usize) -> Next
     requires { (at ≤ 65536) × Within most_bytes found }
     ensures { result ≡ next_after found at }
 {
     match found {
-        FileFound::Bytes(size) => Next::Further(at + size),
-        FileFound::Absent => Next::Ends,
-        FileFound::Unreadable => Next::GivesUp,
+        Ok(size) => Next::Further(at + size),
+        Err(ReadError::Absent) => Next::Ends,
+        Err(ReadError::Unreadable) => Next::GivesUp,
     }
 }
 
 // Reads the files one after another, the bytes of each behind those of the one before, and notes what became of each.
-pub fn read_all(rt: &HostRuntime, bytes: &mut [u8], notes: &mut [u32]) -> Taken
+// The answer is how many files were read.
+pub fn read_all(
+    rt: &HostRuntime,
+    bytes: &mut [u8],
+    notes: &mut [u32],
+) -> Result<usize, UnreadableFile>
     requires { (most_files * most_bytes ≤ length bytes.old) × (length notes.old ≡ most_files) }
     ensures { result ≡ shelf_end notes.new }
 {
     let mut at: usize = 0;
-    let mut i: usize = 0;
-    while i < FILES {
+    for i in 0..FILES {
         let found = read_one(rt, i, at, bytes, notes);
         let next = after(found, at);
         match next {
             Next::Further(past) => {
                 at = past;
             }
-            Next::Ends => return Taken::Files(i),
-            Next::GivesUp => return Taken::Unreadable(i),
+            Next::Ends => return Ok(i),
+            Next::GivesUp => return Err(UnreadableFile(i)),
         }
-        i += 1;
     }
-    Taken::Files(i)
+    Ok(FILES)
 }
 
 // Tells on standard error that the i-th file cannot be read.

@@ -1,5 +1,5 @@
 -- The agreement of a part and a node: what its test means, and what it is good for. Nothing else looks into it. Assumes nothing.
-use Rattle.std.specs.Prelude.{◌≡◌, ◌↔◌, ◌⊎◌, ◌&&◌, ◌||◌, ◌<◌, ◌*◌, ◌/◌}
+use Rattle.std.specs.Prelude.{◌≡◌, ◌↔◌, ◌&&◌, ◌||◌, ◌<◌, ◌*◌, ◌/◌}
 use Rattle.base_lists.specs.Kit.{◌∙◌, sym, ap, refl, subst, ap₂, ⊎_elim, inl, inr, true, List, ℕ, T, eqb, eqb→eq, length, get_or, arith, eq-eqb}
 use Rattle.base_lists.specs.List.{Below}
 use Rattle.base_lists.proofs.Tests.{true-T, T_true, both_true, both_left, both_right, same_test, either_left, either-right, either-cases}

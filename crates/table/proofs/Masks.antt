@@ -1,6 +1,6 @@
 -- Laws of the masks: the sets of the parts that a part drives, or that drive it, built link by link. Assumes nothing.
-use Rattle.std.specs.Prelude.{◌≡◌, ◌||◌, ◌∷◌, ◌≤◌, ◌<◌, ◌+◌, ◌^◌}
-use Rattle.base_lists.specs.Kit.{◌∙◌, sym, ap, refl, subst, Bool, false, true, cond, or-false, or_assoc, List, [], ℕ, not-le_of_lt, add-one, eqb, length, get_or, drop, set, length-set, replicate, drop_of_length-le, length-replicate, get_or-replicate, get_or-set_other, drop-cons, get_or-set_same, eqb-true, eqb-false}
+use Rattle.std.specs.Prelude.{◌≡◌, ◌||◌, ◌∷◌, ◌<◌, ◌^◌}
+use Rattle.base_lists.specs.Kit.{◌∙◌, sym, ap, refl, subst, Bool, false, true, cond, or-false, or_assoc, List, [], ℕ, not-le_of_lt, eqb, length, get_or, set, length-set, replicate, length-replicate, get_or-replicate, get_or-set_other, get_or-set_same, eqb-true, eqb-false}
 use lib.Bits.{bit_or}
 use Rattle.base_lists.specs.List.{any, Below}
 use Rattle.base_lists.proofs.Tests.{T_false, eqb-sym}
@@ -23,13 +23,6 @@ unfoldable pub add_links : List ℕ → List ℕ → List ℕ → List ℕ
 add_links [] xs out = out
 add_links (k ∷ ks) [] out = out
 add_links (k ∷ ks) (x ∷ xs) out = add_links ks xs (set out k (bit_or (get_or out k 0) (2 ^ x)))
-
--- one turn of the loop
-pub add-next : (keys values out : List ℕ) (i : ℕ) → i < length keys → i < length values
-    → add_links (drop (i + 1) keys) (drop (i + 1) values) (set out (get_or keys i 0) (bit_or (get_or out (get_or keys i 0) 0) (2 ^ get_or values i 0)))
-    ≡ add_links (drop i keys) (drop i values) out
-unfolding add_links
-add-next keys values out i h l = rw (add-one, drop-cons keys i 0, drop-cons values i 0)
 
 length-add : (ks xs out : List ℕ) → length (add_links ks xs out) ≡ length out
 unfolding add_links
@@ -81,10 +74,6 @@ pub add-masks : (n : ℕ) (ks xs out : List ℕ) → Below 32 xs → out ≡ rep
 add-masks n ks xs out l e =
     let long : length out ≡ n = ap length e ∙ length-replicate n 0 in
     rw (long, e) (add_none n ks xs l)
-
-pub add-end : (keys values out : List ℕ) (i : ℕ) → length keys ≤ i → add_links (drop i keys) (drop i values) out ≡ out
-unfolding add_links
-add-end keys values out i h = ap (λ (ks : List ℕ). add_links ks (drop i values) out) (drop_of_length-le keys h)
 
 -- ---- neighbours along a direction
 

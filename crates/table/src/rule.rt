@@ -4,17 +4,16 @@ ghost use Rattle.table.specs.Answer.{SetsFit, Ruled};
 ghost use Rattle.table.specs.Union.{union_all};
 
 use crate::Counts;
-use base_bits::{clear, size};
+use base_bits::size;
+use base_lists::fill;
 
 // The parts that occur in a table: the union of all its sets.
 pub fn occurring(table: &[u32]) -> u32
     ensures { result ≡ union_all table.now }
 {
     let mut union: u32 = 0;
-    let mut v = 0;
-    while v < table.len() {
-        union = union | table[v];
-        v += 1;
+    for &set in table {
+        union |= set;
     }
     union
 }
@@ -24,10 +23,9 @@ fn none_kept(counts: Counts) -> Counts
     ensures { result ≡ record { started = counts.started; kept = 0; struck = counts.started; rounds = counts.rounds } }
 {
     Counts {
-        started: counts.started,
         kept: 0,
         struck: counts.started,
-        rounds: counts.rounds,
+        ..counts
     }
 }
 
@@ -41,6 +39,6 @@ pub fn all_or_none(parts: usize, table: &mut [u32], counts: Counts) -> Counts
     if size(occurring(table)) as usize == parts {
         return counts;
     }
-    clear(table);
+    fill(table, 0);
     none_kept(counts)
 }

@@ -1,20 +1,15 @@
 -- Writing a first table, node by node: what the loop over the list of nodes leads to, and how many pairs the table has. Assumes nothing.
-use Rattle.std.specs.Prelude.{◌≡◌, ◌∷◌, ◌≤◌, ◌<◌, ◌+◌, ◌*◌, ◌^◌}
-use Rattle.base_lists.specs.Kit.{◌∙◌, sym, ap, refl, List, [], ℕ, suc, zero, zero-le, suc-le-suc, not-suc-le-zero, le_of_suc-le-suc, zero-lt-suc, add-one, length, get_or, drop, set, length-set, replicate, drop_of_length-le, length-replicate, get_or-replicate, get_or-set_other, drop-cons, arith}
+use Rattle.std.specs.Prelude.{◌≡◌, ◌∷◌, ◌≤◌, ◌<◌, ◌+◌}
+use Rattle.base_lists.specs.Kit.{◌∙◌, sym, ap, refl, List, [], ℕ, suc, zero, suc-le-suc, not-suc-le-zero, le_of_suc-le-suc, zero-lt-suc, add-one, length, get_or, drop, set, length-set, replicate, drop_of_length-le, length-replicate, get_or-replicate, get_or-set_other, drop-cons, arith}
 use Rattle.base_lists.specs.List.{sum, Below}
 use Rattle.base_bits.specs.Bits.{size_of}
-use Rattle.base_bits.proofs.Counts.{size_none, size-le}
+use Rattle.base_bits.proofs.Counts.{size_none}
 use Rattle.table.specs.Row.{pairs}
 use Rattle.table.specs.Fill.{Distinct, NodeList, fill_at, sizes_at, Filled, table_at}
 use Rattle.table.specs.First.{Written}
 use Rattle.table.proofs.Fill.{cleared-none, fill-table}
 
 -- ---- how many pairs
-
-pub sizes-le : (f : ℕ → ℕ) (nodes : List ℕ) → sizes_at f nodes ≤ 32 * length nodes
-unfolding sizes_at
-sizes-le f [] = zero-le
-sizes-le f (v ∷ vs) = omega (arith, size-le (f v), sizes-le f vs)
 
 pairs-none : (n : ℕ) → pairs (replicate n 0) ≡ zero
 unfolding pairs sum
@@ -66,19 +61,13 @@ filled-written {n} {f} {nodes} {empty} {table} none list fill =
 
 -- After i turns: the turns that are left lead to the whole table and the whole count.
 pub record Filling (f : ℕ → ℕ) (nodes before after : List ℕ) (count i : ℕ) : Type 0 where
-  pub within : i ≤ length nodes
-  pub long : length after ≡ length before
   pub table : fill_at f (drop i nodes) after ≡ fill_at f nodes before
   pub size : count + sizes_at f (drop i nodes) ≡ sizes_at f nodes
 
 pub filling-start : (f : ℕ → ℕ) (nodes before : List ℕ) → Filling f nodes before before 0 0
-filling-start f nodes before = record { within = zero-le; long = refl; table = refl; size = omega arith }
+filling-start f nodes before = record { table = refl; size = omega arith }
 
 module _ {f : ℕ → ℕ} {nodes before after : List ℕ} {count i : ℕ} (g : Filling f nodes before after count i) where
-  -- the count fits its type, when the size of a set is added
-  pub filling-fits : length nodes ≤ 65536 → (x : ℕ) {s : ℕ} → s ≡ size_of x → count + s < 2 ^ 32
-  filling-fits short x d = omega (arith, g.size, sizes-le f nodes, d, size-le x)
-
   module _ (h : i < length nodes) where
     next : drop i nodes ≡ get_or nodes i 0 ∷ drop (i + 1) nodes
     next = rw (add-one, drop-cons nodes i 0)
@@ -92,8 +81,6 @@ module _ {f : ℕ → ℕ} {nodes before after : List ℕ} {count i : ℕ} (g : 
     unfolding fill_at
     filling-next {x} {s} e d =
         record {
-          within = omega arith;
-          long = length-set after (get_or nodes i 0) x ∙ g.long;
           table =
               ap (λ (y : ℕ). fill_at f (drop (i + 1) nodes) (set after (get_or nodes i 0) y)) e ∙ sym (ap (λ (l : List ℕ). fill_at f l after) next) ∙ g.table;
           size = omega (arith, g.size, sizes-next, d, ap size_of e);

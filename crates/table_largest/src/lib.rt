@@ -44,6 +44,7 @@ pub fn settle(
     let mut rounds: u32 = 0;
     let one_way = all_empty(&masks[FORWARD_MASKS..MASKS]);
     let mut n = changes(one_way, first, masks, offsets, targets, table, changed, new);
+    // A while: it ends with the round that strikes nothing, and how many come before it is not known.
     while n != 0 {
         kept = write(&changed[..n], &new[..n], table, kept);
         rounds += 1;

@@ -5,7 +5,7 @@ ghost use Rattle.simulation.specs.Simulation.{backwards};
 ghost use Rattle.table.specs.Prepared.{masks_of, MaskedBy, Masked};
 ghost use Rattle.table.specs.Row.{ways_of, among};
 
-use base_bits::clear;
+use base_lists::fill;
 use table::{FORWARD_MASKS, MASKS, Ways};
 
 // For each part the set of the values that stand beside it among the keys: with the link starts as keys and the ends as
@@ -16,12 +16,9 @@ pub fn masks_of(keys: &[u16], values: &[u16], out: &mut [u32])
     requires below_2 { Below 32 values.now }
     ensures { out.new ≡ masks_of (length out.old) keys.now values.now }
 {
-    clear(out);
-    let mut i = 0;
-    while i < keys.len() {
-        let u = keys[i] as usize;
-        out[u] = out[u] | base_bits::single(values[i] as u32);
-        i += 1;
+    fill(out, 0);
+    for (&key, &value) in keys.iter().zip(values) {
+        out[key as usize] |= base_bits::single(value as u32);
     }
 }
 
@@ -36,7 +33,7 @@ fn half_of(counts: bool, keys: &[u16], values: &[u16], out: &mut [u32])
     if counts {
         masks_of(keys, values, out);
     } else {
-        clear(out);
+        fill(out, 0);
     }
 }
 
@@ -62,7 +59,7 @@ pub fn masks_along(ways: Ways, starts: &[u16], ends: &[u16], masks: &mut [u32])
     half_of(back, ends, starts, &mut masks[FORWARD_MASKS..MASKS]);
 }
 
-// The masks of both directions.
+// The masks of both directions. (A function of its own: it promises `Masked`, which its callers need.)
 pub fn pattern_masks(starts: &[u16], ends: &[u16], masks: &mut [u32])
     requires starts_len { (length starts.now ≡ length ends.now) × Below 32 starts.now × Below 32 ends.now }
     requires masks_len { length masks.old ≡ 64 }

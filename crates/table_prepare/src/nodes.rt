@@ -7,9 +7,7 @@ pub fn list_all(nodes: &mut [u16])
     requires { length nodes.old ≤ 65536 }
     ensures { nodes.new ≡ all_nodes (length nodes.old) }
 {
-    let mut v = 0;
-    while v < nodes.len() {
-        nodes[v] = v as u16;
-        v += 1;
+    for (v, node) in nodes.iter_mut().enumerate() {
+        *node = v as u16;
     }
 }

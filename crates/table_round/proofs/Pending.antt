@@ -1,6 +1,6 @@
 -- Laws of the two halves of a round: listing the nodes that change, and writing their sets. Assumes nothing.
-use Rattle.std.specs.Prelude.{◌≡◌, ◌&&◌, ◌||◌, ◌∷◌, ◌++◌, ◌≤◌, ◌<◌, ◌+◌, ◌-◌}
-use Rattle.base_lists.specs.Kit.{◌∙◌, sym, ap, refl, subst, Bool, false, true, cond, not, List, [], append-nil, map, append_assoc, ℕ, suc, zero-le, add-one, T, eqb, length, get_or, take, drop, set, length-set, drop_of_length-le, drop-cons, take-suc-set, arith, eqb-true, and-false}
+use Rattle.std.specs.Prelude.{◌≡◌, ◌&&◌, ◌||◌, ◌∷◌, ◌++◌, ◌≤◌, ◌<◌, ◌+◌, ◌-◌, ◌⊎◌}
+use Rattle.base_lists.specs.Kit.{◌∙◌, sym, ap, refl, subst, Bool, false, true, cond, not, List, [], append-nil, map, append_assoc, ℕ, suc, zero-le, suc-le-suc, zero-lt-suc, inl, inr, add-one, T, eqb, length, get_or, take, drop, set, length-set, drop_of_length-le, drop-cons, take-suc-set, arith, eqb-true, and-false}
 use Rattle.base_lists.specs.List.{any, Below}
 use Rattle.base_lists.proofs.Tests.{both_left}
 use Rattle.base_bits.specs.Bits.{size_of}
@@ -42,13 +42,12 @@ module _ (f : ℕ → ℕ) (old : List ℕ) where
   -- ---- the loop that lists them: what is listed, with what is left, is all
 
   pub record Listing (todo changed next : List ℕ) (k i : ℕ) : Type 0 where
-    pub within : i ≤ length todo
     pub few : k ≤ i
     pub nodes : take k changed ++ changing f old (drop i todo) ≡ changing f old todo
     pub sets : take k next ++ map f (changing f old (drop i todo)) ≡ map f (changing f old todo)
 
   pub listing_start : (todo changed next : List ℕ) → Listing todo changed next 0 0
-  listing_start todo changed next = record { within = zero-le; few = zero-le; nodes = refl; sets = refl }
+  listing_start todo changed next = record { few = zero-le; nodes = refl; sets = refl }
 
   module _ {todo changed next : List ℕ} {k i : ℕ} (g : Listing todo changed next k i) where
     pub listing-next : {v x y k' : ℕ} {changed' next' : List ℕ} → i < length todo → k < length changed → k < length next →
@@ -66,7 +65,6 @@ module _ (f : ℕ → ℕ) (old : List ℕ) where
             let n : next' ≡ next = noted.sets ∙ rw e in
             let q : k' ≡ k = noted.count ∙ rw e (omega arith) in
             record {
-              within = omega arith;
               few = omega (arith, g.few);
               nodes = rw (q, c, ← same) g.nodes;
               sets = rw (q, n, ← same) g.sets;
@@ -77,7 +75,6 @@ module _ (f : ℕ → ℕ) (old : List ℕ) where
             let n : next' ≡ set next k x = noted.sets ∙ rw e in
             let q : k' ≡ suc k = noted.count ∙ rw e (omega arith) in
             record {
-              within = omega arith;
               few = omega (arith, g.few);
               nodes =
                   rw (q, c, take-suc-set changed k v room, append_assoc)
@@ -87,12 +84,13 @@ module _ (f : ℕ → ℕ) (old : List ℕ) where
                   (ap (λ (l : List ℕ). take k next ++ map f l) (sym more) ∙ g.sets);
             }
 
-    pub listing-end : length todo ≤ i → Pending f old todo changed next k
+    pub listing-end : i ≡ length todo → Pending f old todo changed next k
     unfolding changing
     listing-end h =
-        let none : changing f old (drop i todo) ≡ [] = rw (drop_of_length-le todo h) in
+        let past : length todo ≤ i = omega arith in
+        let none : changing f old (drop i todo) ≡ [] = rw (drop_of_length-le todo past) in
         record {
-          within = omega (arith, g.few, g.within);
+          within = omega (arith, g.few);
           nodes = sym (append-nil (take k changed)) ∙ rw none at g.nodes;
           sets = sym (append-nil (take k next)) ∙ rw none at g.sets;
         }
@@ -107,28 +105,35 @@ put_fill f (v ∷ vs) xs = put_fill f vs (set xs v (f v))
 
 -- ---- the loop that writes: what is left to write leads to the whole
 
-pub record Putting (nodes sets before after : List ℕ) (count i : ℕ) : Type 0 where
-  pub within : i ≤ length nodes
-  pub long : length after ≡ length before
-  pub table : put_at (drop i nodes) (drop i sets) after ≡ put_at nodes sets before
+pub record Putting (nodes sets whole after : List ℕ) (count : ℕ) : Type 0 where
+  pub below : Below (length after) nodes
+  pub table : put_at nodes sets after ≡ whole
   pub size : count ≡ pairs after
 
-pub putting-start : (nodes sets before : List ℕ) {count : ℕ} → count ≡ pairs before → Putting nodes sets before before count 0
-putting-start nodes sets before e = record { within = zero-le; long = refl; table = refl; size = e }
+module _ {nodes sets whole after : List ℕ} {count : ℕ} (g : Putting nodes sets whole after count) where
+  module _ {v x : ℕ} {nodes' sets' : List ℕ} (e : nodes ≡ v ∷ nodes') (q : sets ≡ x ∷ sets') where
+    -- the next node
+    pub putting_node : v < length after
+    unfolding Below
+    putting_node = (rw e at g.below) 0 (zero-lt-suc _)
 
-module _ {nodes sets before after : List ℕ} {count i : ℕ} (g : Putting nodes sets before after count i) where
-  pub putting-next : {v x a b : ℕ} → i < length nodes → length sets ≡ length nodes → v ≡ get_or nodes i 0 → x ≡ get_or sets i 0 → v < length after →
-      a ≡ size_of (get_or after v 0) → b ≡ size_of x → Putting nodes sets before (set after v x) (count - a + b) (i + 1)
-  unfolding put_at
-  putting-next {v} {x} {a} {b} h l ev ex inside ea eb =
-      let h' : i < length sets = omega arith in
-      record {
-        within = omega arith;
-        long = length-set after v x ∙ g.long;
-        table = rw (ev, ex) (rw (drop-cons nodes i 0 h, drop-cons sets i 0 h', ← add-one) at g.table);
-        size = rw (g.size, ea, eb) (pairs-put after v x inside);
-      }
+    pub putting-next : {a b : ℕ} → a ≡ size_of (get_or after v 0) → b ≡ size_of x → Putting nodes' sets' whole (set after v x) (count - a + b)
+    unfolding Below put_at
+    putting-next {a} {b} ea eb =
+        record {
+          below = λ i h. rw length-set ((rw e at g.below) (suc i) (suc-le-suc h));
+          table = rw (e, q) at g.table;
+          size = rw (g.size, ea, eb) (pairs-put after v x putting_node);
+        }
 
-  pub putting-end : length nodes ≤ i → SetsPut nodes sets before after count
-  unfolding put_at
-  putting-end h = record { table = rw (drop_of_length-le nodes h) at g.table; size = g.size }
+-- where nothing is left to write
+put-none : (nodes sets table : List ℕ) → (length nodes ≡ 0) ⊎ (length sets ≡ 0) → put_at nodes sets table ≡ table
+unfolding put_at
+put-none [] sets table h = refl
+put-none (v ∷ vs) [] table h = refl
+put-none (v ∷ vs) (x ∷ xs) table (inl h) = absurd (omega arith)
+put-none (v ∷ vs) (x ∷ xs) table (inr h) = absurd (omega arith)
+
+pub putting-end : {nodes sets before left right after : List ℕ} {count : ℕ} → Putting left right (put_at nodes sets before) after count
+    → (length left ≡ 0) ⊎ (length right ≡ 0) → SetsPut nodes sets before after count
+putting-end g h = record { table = sym (put-none _ _ _ h) ∙ g.table; size = g.size }

@@ -47,12 +47,10 @@ pub fn changes(
         old.now) old.now todo.now changed.new next.new result }
 {
     let mut k = 0;
-    let mut i = 0;
-    while i < todo.len() {
-        let v = todo[i] as usize;
+    for &node in todo {
+        let v = node as usize;
         let set = strike_node(one_way, masks, offsets, targets, old, v);
-        k = note_change(todo[i], set, old[v], changed, next, k);
-        i += 1;
+        k = note_change(node, set, old[v], changed, next, k);
     }
     k
 }
@@ -65,12 +63,10 @@ pub fn write(nodes: &[u16], sets: &[u32], table: &mut [u32], started: u32) -> u3
     ensures { SetsPut nodes.now sets.now table.old table.new result }
 {
     let mut kept = started;
-    let mut i = 0;
-    while i < nodes.len() {
-        let v = nodes[i] as usize;
-        kept = kept - base_bits::size(table[v]) + base_bits::size(sets[i]);
-        table[v] = sets[i];
-        i += 1;
+    for (&node, &set) in nodes.iter().zip(sets) {
+        let v = node as usize;
+        kept = kept - base_bits::size(table[v]) + base_bits::size(set);
+        table[v] = set;
     }
     kept
 }
@@ -80,10 +76,7 @@ pub fn unmark(todo: &[u16], marks: &mut [u16])
     requires { Below (length marks.old) todo.now }
     ensures { marks.new ≡ fill_at (λ v. far) todo.now marks.old }
 {
-    let mut i = 0;
-    while i < todo.len() {
-        let v = todo[i] as usize;
-        marks[v] = UNREACHED;
-        i += 1;
+    for &node in todo {
+        marks[node as usize] = UNREACHED;
     }
 }

@@ -1,14 +1,14 @@
 -- Laws of the parts of a set whose links all have partners: what `surviving` keeps, and the next set of a node. Assumes nothing.
-use Rattle.std.specs.Prelude.{◌≡◌, ◌&&◌, ◌∷◌, ◌≤◌, ◌<◌, ◌+◌, ◌^◌}
-use Rattle.base_lists.specs.Kit.{◌∙◌, sym, ap, refl, ap₂, Bool, false, true, cond, and-false, List, [], ℕ, suc, zero, not-suc-le-zero, T, eqb, length, get_or, arith, eq-eqb, eqb-true}
+use Rattle.std.specs.Prelude.{◌≡◌, ◌&&◌, ◌∷◌, ◌<◌, ◌^◌}
+use Rattle.base_lists.specs.Kit.{◌∙◌, sym, ap, refl, ap₂, Bool, false, true, cond, and-false, List, [], ℕ, suc, zero, T, eqb, get_or, eqb-true}
 use lib.Bits.{bit_or, or_zero_r}
-use borrow.Author.Count.{below_more}
+use Rattle.std.specs.List.{list_all}
 use Rattle.base_lists.specs.List.{all}
-use Rattle.base_lists.proofs.Tests.{both_left, both_right, T_true, true-T, same_test, at_all, all-at}
+use Rattle.base_lists.proofs.Tests.{both_left, both_right, T_true, true-T}
 use Rattle.base_bits.specs.Bits.{bit, Subset, subset_of, first_of, without_first, union_at}
 use Rattle.base_bits.proofs.Numbers.{number_same}
 use Rattle.base_bits.proofs.Passing.{passing-none, passing-subset, passing-again, passing-next}
-use Rattle.base_bits.proofs.Tests.{bit_or-assoc, subset-none, bit_or-left, bit_or-right}
+use Rattle.base_bits.proofs.Tests.{bit_or-assoc, subset-none}
 use Rattle.graph.specs.Net.{driven, driving}
 use Rattle.table.specs.Prepared.{succ_of, pred_of, Tables}
 use Rattle.table_strike.specs.Strike.{survivors, all_empty, strike_node}
@@ -70,30 +70,11 @@ strike-none t old v e =
 
 -- ---- masks that ask for nothing
 
--- the union of the first i masks: it has each of them, and is empty where all of them are
-pub record UnionTo (masks : List ℕ) (i union : ℕ) : Type 0 where
-  pub within : i ≤ length masks
-  pub has : (k : ℕ) → k < i → get_or masks k 0 ≤ union
-  pub least : ((k : ℕ) → k < i → get_or masks k 0 ≡ 0) → union ≡ 0
-
-pub union-start : (masks : List ℕ) → UnionTo masks 0 0
-union-start masks = record { within = omega arith; has = λ k h. absurd (not-suc-le-zero h); least = λ f. refl }
-
-pub union-next : {masks : List ℕ} {i union : ℕ} → UnionTo masks i union → i < length masks → UnionTo masks (i + 1) (bit_or union (get_or masks i 0))
-union-next {masks} {i} {union} u h =
-    record {
-      within = omega arith;
-      has = below_more (λ (k : ℕ). get_or masks k 0 ≤ bit_or union (get_or masks i 0)) i (λ k l. omega (arith, u.has k l, bit_or-left union (get_or masks i 0))) (bit_or-right union (get_or masks i 0));
-      least = λ f. ap₂ bit_or (u.least (λ k l. f k (omega arith))) (f i (omega arith)) ∙ or_zero_r 0;
-    }
-
--- so the masks are all empty where the whole union is
-pub union-end : {masks : List ℕ} {i union : ℕ} → UnionTo masks i union → length masks ≤ i → eqb union 0 ≡ all_empty masks
-unfolding all_empty
-union-end {masks} {i} {union} u h =
-    same_test
-    (λ t. at_all (λ m. eqb m 0) masks (λ k l. true-T (eq-eqb (get_or masks k 0) 0 (omega (arith, u.has k (omega arith), eqb-true union 0 (T_true t))))))
-    (λ t. true-T (eq-eqb union 0 (u.least (λ k l. eqb-true _ _ (T_true (all-at (λ m. eqb m 0) masks t k (omega (arith, u.within))))))))
+-- std's word for the test
+pub list_all-is-all : (p : ℕ → Bool) (xs : List ℕ) → list_all p xs ≡ all p xs
+unfolding all
+list_all-is-all p [] = refl
+list_all-is-all p (x ∷ xs) = ap (λ (b : Bool). p x && b) (list_all-is-all p xs)
 
 -- each of them is empty
 empty-at : (masks : List ℕ) → T (all_empty masks) → (u : ℕ) → get_or masks u 0 ≡ 0

@@ -17,13 +17,7 @@ use table::{FORWARD_MASKS, MASKS};
 pub fn all_empty(masks: &[u32]) -> bool
     ensures { result ≡ all_empty masks.now }
 {
-    let mut union: u32 = 0;
-    let mut i = 0;
-    while i < masks.len() {
-        union = union | masks[i];
-        i += 1;
-    }
-    union == 0
+    masks.iter().all(|&mask| mask == 0)
 }
 
 // The union of the sets of what drives node v, or nothing where nothing is asked for of it.
@@ -50,13 +44,12 @@ fn surviving(set: u32, succ: &[u32], pred: &[u32], f: u32, b: u32) -> u32
 {
     let mut kept: u32 = 0;
     let mut left = set;
+    // A while: a set gives its parts from the least on by bit operations, and has no iterator.
     while left != 0 {
         let u = base_bits::first(left);
         let i = u as usize;
-        if base_bits::subset(succ[i], f) {
-            if base_bits::subset(pred[i], b) {
-                kept = kept | base_bits::single(u);
-            }
+        if base_bits::subset(succ[i], f) && base_bits::subset(pred[i], b) {
+            kept |= base_bits::single(u);
         }
         left = base_bits::without_first(left);
     }

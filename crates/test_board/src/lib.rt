@@ -28,18 +28,11 @@ pub fn in_range(n: u32, m: u32, k: u32) -> bool
     k <= 65536
 }
 
-// The product of two numbers, mod 2^32.
-fn wrapping_mul(a: u32, b: u32) -> u32
-    ensures { result ≡ (a * b) % 2 ^ 32 }
-{
-    (a as u64 * b as u64 % 4294967296) as u32
-}
-
 // The next state of the generator.
 fn step(s: u32) -> u32
     ensures { result ≡ step s }
 {
-    std::num::wrapping_add_u32(wrapping_mul(FACTOR, s), ADDED)
+    FACTOR.wrapping_mul(s).wrapping_add(ADDED)
 }
 
 // The top 16 bits of a state.
@@ -75,12 +68,10 @@ fn draw_all(s: u32, k: usize, count: usize, out: &mut [u16]) -> u32
     ensures out_after { out.new ≡ draws s k count ++ drop count out.old }
 {
     let mut state = s;
-    let mut i = 0;
-    while i < count {
+    for i in 0..count {
         let drawn = draw(state, k);
         out[i] = drawn.value;
         state = drawn.state;
-        i += 1;
     }
     state
 }

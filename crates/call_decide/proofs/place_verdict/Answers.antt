@@ -2,8 +2,8 @@
 -- nothing.
 use Rattle.std.specs.Prelude.{◌≡◌}
 use Rattle.base_lists.specs.Kit.{◌∙◌, sym, ap, Bool, false, true, cond, le-ltb, lt-ltb}
-use Rattle.file_format.specs.Reading.{verdict_of}
 use Rattle.file_format.specs.Refusals.{accept, refuse, first, centre_outside}
+use Rattle.file_format.specs.Reply.{verdict_of}
 use Rattle.call_decide.specs.Decide.{too_short, room_conditions}
 use Rattle.call_decide.proofs.place_verdict.Goals as goal
 use Rattle.call_decide.proofs.place_verdict.Goals.{After-tables_fit-room}

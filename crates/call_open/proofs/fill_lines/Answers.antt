@@ -1,4 +1,4 @@
--- `call_open::fill_lines` meets its contract: a file is refused, or no lines are left, or the whole board is matched and its components are named. Assumes
+-- `call_open::fill_lines` meets its contract: no lines are left, or the whole board is matched and its components are named. Assumes
 -- nothing.
 use Rattle.std.specs.Prelude.{◌≡◌, ◌≤◌}
 use Rattle.base_lists.specs.Kit.{◌∙◌, sym, length, length-take-le, arith}
@@ -7,22 +7,18 @@ use Rattle.table.specs.Prepared.{tables}
 use Rattle.table.specs.Row.{both_directions}
 use Rattle.report_locate.proofs.Component.{source-match}
 use Rattle.call_prepare.specs.Read.{BothPrepared}
-use Rattle.call_prepare.proofs.Ready.{ready-both}
-use Rattle.call_open.proofs.Opened.{opened-links, opened-few, opened-source, opened-refused, opened-past, opened-lines}
+use Rattle.call_open.proofs.Opened.{opened-links, opened-few, opened-source, opened-past, opened-lines}
 use Rattle.call_open.proofs.fill_lines.Goals as goal
 use Rattle.call_open.proofs.fill_lines.Goals.{After-match_tables, Else-n-from}
 
-pub returns-in_default : goal.returns-in_default
-returns-in_default c pattern board p = opened-refused p _ c.in_default.is
-
 pub returns-then-n-from : goal.returns-then-n-from
-returns-then-n-from c pattern board p = opened-past p _ c.in-Accepted.is c.if-n-from.true c.requires.lines_room
+returns-then-n-from c pattern board p = opened-past p _ c.if-n-from.true c.requires.lines_room
 
 -- ---- the whole board's table
 -- both were read and prepared
 ready : (c : Else-n-from) →
     BothPrepared Pattern both_directions c.requires.some_prepared.pattern c.requires.some_prepared.board c.args.read c.args.pk.now c.args.nk.now (tables c.args.masks.now c.args.offsets.now c.args.targets.now)
-ready c = ready-both c.requires.some_prepared.prepared c.in-Accepted.is
+ready c = c.requires.some_prepared.prepared
 
 -- the tables have room
 room : (c : Else-n-from) →
@@ -52,8 +48,7 @@ match_tables-requires c =
 
 -- it has an entry for each node
 long : (c : After-match_tables) → length c.match_tables.new.table ≡ c.args.read.nodes
-long c = c.match_tables.auto.table ∙ length-take-le _ _ ((let fact : (c.args.read.nodes ≤ length c.args.whole.now) × (c.args.read.nodes ≤ length c.args.component_of.now) × (c.args.read.nodes ≤ length c.args.sizes.now) = let few = opened-few ((let fact : BothPrepared Pattern both_directions c.requires.some_prepared.pattern c.requires.some_prepared.board c.args.read c.args.pk.now c.args.nk.now (tables c.args.masks.now c.args.offsets.now c.args.targets.now) = ready-both c.requires.some_prepared.prepared c.in-Accepted.is in fact)) in
-    (omega (arith, few, c.requires.lines_room.0), omega (arith, few, c.requires.lines_room.1), omega (arith, few, c.requires.lines_room.2)) in fact)).0
+long c = c.match_tables.auto.table ∙ length-take-le _ _ (omega (arith, opened-few c.requires.some_prepared.prepared, c.requires.lines_room.0))
 
 pub slice_bounds-components-end : goal.slice_bounds-components-end
 slice_bounds-components-end c = (room (goal.at.slice_bounds-components-end c).Else-n-from).1
@@ -78,7 +73,7 @@ components-requires c =
 pub returns : goal.returns
 returns c pattern board p =
     let room = room (goal.at.returns c).Else-n-from in
-    opened-lines p _ c.in-Accepted.is _ _ _ c.requires.lines_room (
+    opened-lines p _ _ _ _ c.requires.lines_room (
       long (goal.at.returns c).After-match_tables,
       c.components.auto.component_of ∙ length-take-le _ _ room.1,
       c.components.auto.sizes ∙ length-take-le _ _ room.2,

@@ -16,13 +16,12 @@ inside c e = sym c.in_range-fits.ensures ∙ e
 
 pub returns-then-not-fits : goal.returns-then-not-fits
 returns-then-not-fits c =
-    rw c.refused.ensures (loading-outside c.args.seed c.args.n c.args.m c.args.k c.args.out.now (outside (goal.at.returns-then-not-fits c).After-in_range-fits c.if-not-fits.true))
+    loading-outside c.args.seed c.args.n c.args.m c.args.k c.args.out.now (outside (goal.at.returns-then-not-fits c).After-in_range-fits c.if-not-fits.true)
 
 pub returns-then-is_short : goal.returns-then-is_short
 returns-then-is_short c =
     let short : length c.args.out.now < 4 + 2 * c.args.n + 4 * c.args.m = c.if-is_short.true in
-    rw c.refused-then-is_short.ensures
-    (loading-short c.args.seed c.args.n c.args.m c.args.k c.args.out.now (inside (goal.at.returns-then-is_short c).After-in_range-fits c.if-not-fits.false) (omega arith))
+    loading-short c.args.seed c.args.n c.args.m c.args.k c.args.out.now (inside (goal.at.returns-then-is_short c).After-in_range-fits c.if-not-fits.false) (omega arith)
 
 pub make-requires : goal.make-requires
 make-requires c =

@@ -1,6 +1,6 @@
 -- `file_fields::store_labels` meets its contract. The loop's invariant: the labels of the nodes passed stand at the front. Assumes nothing.
 use Rattle.std.specs.Prelude.{◌≡◌, ◌++◌, ◌<◌, ◌+◌, ◌*◌}
-use Rattle.base_lists.specs.Kit.{◌∙◌, sym, refl, subst, ap₂, List, ℕ, get_or, drop, length-set, arith}
+use Rattle.base_lists.specs.Kit.{◌∙◌, sym, subst, ap₂, List, ℕ, get_or, drop, arith}
 use Rattle.base_lists.specs.List.{tabulate}
 use Rattle.base_lists.proofs.Tables.{filled_none, filled_more}
 use Rattle.file_format.proofs.Fields.{length_fields, get_or-fields}
@@ -21,45 +21,15 @@ unfolding labels label_at
 label-stored kinds k packages p old = rw length_fields
 
 pub loop-i-init : goal.loop-i-init
-loop-i-init c = (omega arith, refl, filled_none _ _)
-
-pub field_at-kind-requires : goal.field_at-kind-requires
-field_at-kind-requires c = omega arith
-
-pub package_at-requires : goal.package_at-requires
-package_at-requires c = omega arith
-
-pub overflow_mul-out : goal.overflow_mul-out
-overflow_mul-out c = omega arith
-
-pub overflow_add-out : goal.overflow_add-out
-overflow_add-out c = omega arith
-
-pub offset_bounds-out-i : goal.offset_bounds-out-i
-offset_bounds-out-i c = omega arith
-
-pub bounds-out-i : goal.bounds-out-i
-bounds-out-i c = omega arith
-
-pub overflow_step-i : goal.overflow_step-i
-overflow_step-i c = omega arith
-
-pub loop-i-smaller : goal.loop-i-smaller
-loop-i-smaller c = omega arith
+loop-i-init c = filled_none _ _
 
 pub loop-i-preserved : goal.loop-i-preserved
 loop-i-preserved c =
-    let made = label-made c.args.kinds.now c.args.k c.args.packages.now c.args.p c.loop-i.i _ _ (omega arith) c.field_at-kind.ensures c.package_at.ensures.0 in (
-      omega arith,
-      simp length-set c.loop-i.invariant.1,
-      rw (c.loop-i.invariant.2, made) (filled_more _ _ _ (omega arith)),
-    )
-
-pub shape_of-out : goal.shape_of-out
-shape_of-out c = c.loop-i.invariant.1
+    let made = label-made c.args.kinds.now c.args.k c.args.packages.now c.args.p c.loop-i.i _ _ (omega arith) c.field_at-kind.ensures c.package_at.ensures.0 in
+    rw (c.loop-i.invariant, made) (filled_more _ _ _ (omega arith))
 
 pub returns : goal.returns
 returns c =
-    let e : c.loop-i.i ≡ c.args.k = omega arith in
-    subst (λ (i : ℕ). c.loop-i.out ≡ tabulate i (label_at c.args.kinds.now c.args.k c.args.packages.now c.args.p) ++ drop i c.args.out.now) e c.loop-i.invariant.2
+    let done : c.loop-i.i ≡ c.args.k = omega arith in
+    subst (λ (i : ℕ). c.loop-i.out ≡ tabulate i (label_at c.args.kinds.now c.args.k c.args.packages.now c.args.p) ++ drop i c.args.out.now) done c.loop-i.invariant
     ∙ label-stored c.args.kinds.now c.args.k c.args.packages.now c.args.p c.args.out.now

@@ -23,5 +23,5 @@ unfolding kinds_of packages_of starts_of ends_of
 returns c =
     λ role e.
     let (n, m, _) = c.requires in
-    rw (c.store_two.ensures.first_after, c.store_two.ensures.second_after, c.fill_links.ensures.starts_after, c.fill_links.ensures.ends_after, c.package_count-p.ensures.0, n, m)
+    rw (c.new.ensures, c.store_two.ensures.first_after, c.store_two.ensures.second_after, c.fill_links.ensures.starts_after, c.fill_links.ensures.ends_after, c.package_count-p.ensures.0, n, m)
     (sym (reading-filled role _ _ _ _ _ e (omega arith) (rw (← n, ← c.package_count-p.ensures.0) c.if-packages-p.false) (omega arith) (omega arith)))

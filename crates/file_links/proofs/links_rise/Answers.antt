@@ -6,35 +6,11 @@ use Rattle.file_links.proofs.links_rise.Goals as goal
 pub returns-then-starts-eq0 : goal.returns-then-starts-eq0
 returns-then-starts-eq0 c = sym (no-links _ _ c.if-starts-eq0.true)
 
-pub bounds-starts-0 : goal.bounds-starts-0
-bounds-starts-0 c = omega arith
-
-pub bounds-ends-0 : goal.bounds-ends-0
-bounds-ends-0 c = omega arith
-
 pub loop-i-init : goal.loop-i-init
 loop-i-init c = rose-first _ _ c.if-starts-eq0.false c.number_of-last.ensures
 
-pub offset_bounds-starts-i : goal.offset_bounds-starts-i
-offset_bounds-starts-i c = omega arith
-
-pub bounds-starts-i : goal.bounds-starts-i
-bounds-starts-i c = omega arith
-
-pub offset_bounds-ends-i : goal.offset_bounds-ends-i
-offset_bounds-ends-i c = omega arith
-
-pub bounds-ends-i : goal.bounds-ends-i
-bounds-ends-i c = omega arith
-
 pub returns-then-next-last : goal.returns-then-next-last
 returns-then-next-last c = sym (rose-not _ _ c.loop-i.invariant (omega arith) c.number_of-next.ensures (omega arith))
-
-pub overflow_add-i : goal.overflow_add-i
-overflow_add-i c = omega arith
-
-pub loop-i-smaller : goal.loop-i-smaller
-loop-i-smaller c = omega arith
 
 pub loop-i-preserved : goal.loop-i-preserved
 loop-i-preserved c = rose-more _ _ c.loop-i.invariant (omega arith) c.number_of-next.ensures c.if-next-last.false

@@ -23,24 +23,24 @@ pub returns-then-size-eq0 : goal.returns-then-size-eq0
 unfolding ReportHanded
 returns-then-size-eq0 c =
     let inv = c.loop-part.invariant in
-    let told = c.in-Put.ensures _ _ (opened-later zero-le c.requires.opened) in
+    let told = c.in-Ok.ensures _ _ (opened-later zero-le c.requires.opened) in
     put-none _ _ _ _ _ _ inv.2 told inv.0 c.if-size-eq0.true
 
 pub slice_bounds-hand-end : goal.slice_bounds-hand-end
 slice_bounds-hand-end c =
-    let told = c.in-Put.ensures _ _ (opened-later zero-le c.requires.opened) in
+    let told = c.in-Ok.ensures _ _ (opened-later zero-le c.requires.opened) in
     put-within _ _ _ _ _ _ c.loop-part.invariant.2 told
 
 pub slice_bounds-hand-end-in-loop-part : goal.slice_bounds-hand-end-in-loop-part
 slice_bounds-hand-end-in-loop-part c =
-    let told = c.in-Put.ensures _ _ (opened-later zero-le c.requires.opened) in
+    let told = c.in-Ok.ensures _ _ (opened-later zero-le c.requires.opened) in
     sym (length-take-le _ _ (put-within _ _ _ _ _ _ c.loop-part.invariant.2 told))
 
 pub hand-requires : goal.hand-requires
 unfolding GoesOn
 hand-requires c =
     let inv = c.loop-part.invariant in
-    let told = c.in-Put.ensures _ _ (opened-later zero-le c.requires.opened) in
+    let told = c.in-Ok.ensures _ _ (opened-later zero-le c.requires.opened) in
     put-text _ _ _ _ _ _ inv.2 told inv.0 inv.1
 
 -- a piece that was not taken leaves as many items handed over as before
@@ -53,14 +53,14 @@ returns-then-not-hand c =
 pub overflow_cast-found : goal.overflow_cast-found
 overflow_cast-found c =
     let inv = c.loop-part.invariant in
-    let told = c.in-Put.ensures _ _ (opened-later zero-le c.requires.opened) in
+    let told = c.in-Ok.ensures _ _ (opened-later zero-le c.requires.opened) in
     let (within, places, more) = put-follows _ _ _ _ _ _ inv.2 told inv.0 inv.1 in
-    omega (arith, places, places-few (first_edition c.args.pattern.now) (first_edition c.args.board.now) c.in-Put.part.next)
+    omega (arith, places, places-few (first_edition c.args.pattern.now) (first_edition c.args.board.now) c.in-Ok.part.next)
 
 pub loop-part-smaller : goal.loop-part-smaller
 loop-part-smaller c =
     let inv = c.loop-part.invariant in
-    let told = c.in-Put.ensures _ _ (opened-later zero-le c.requires.opened) in
+    let told = c.in-Ok.ensures _ _ (opened-later zero-le c.requires.opened) in
     let (within, places, more) = put-follows _ _ _ _ _ _ inv.2 told inv.0 inv.1 in
     let reached = rw c.if-not-hand.false at c.hand.ensures in
     omega (arith, more c.if-size-eq0.false, within, reached)
@@ -68,7 +68,7 @@ loop-part-smaller c =
 pub loop-part-preserved : goal.loop-part-preserved
 loop-part-preserved c =
     let inv = c.loop-part.invariant in
-    let told = c.in-Put.ensures _ _ (opened-later zero-le c.requires.opened) in
+    let told = c.in-Ok.ensures _ _ (opened-later zero-le c.requires.opened) in
     let (within, places, more) = put-follows _ _ _ _ _ _ inv.2 told inv.0 inv.1 in
     let reached = rw c.if-not-hand.false at c.hand.ensures in
     (rw reached within, rw reached places, omega (arith, c.put-answer.auto.out, inv.2))

@@ -1,7 +1,7 @@
 -- `graph_gather::keep` meets its contract. The loop's invariant: of the first i nodes those with the number stand in front, and the nodes from the
--- i-th on stand where they stood. The measure is how many are left. Assumes nothing.
+-- i-th on stand where they stood. Assumes nothing.
 use Rattle.std.specs.Prelude.{◌≡◌, ◌∷◌, ◌++◌, ◌<◌, ◌+◌}
-use Rattle.base_lists.specs.Kit.{◌∙◌, sym, ap, refl, subst, Bool, false, true, cond, List, [], append-nil, ℕ, le_refl, add-zero, add-one, length, get_or, take, set, length-set, length-take-le, get_or-set_other, get_or-take, take-suc, take-suc-set, take-set-le, arith}
+use Rattle.base_lists.specs.Kit.{◌∙◌, sym, ap, refl, subst, Bool, false, true, cond, List, [], append-nil, ℕ, le_refl, add-zero, add-one, length, get_or, take, set, length-take-le, get_or-set_other, get_or-take, take-suc, take-suc-set, take-set-le, arith}
 use Rattle.base_lists.specs.List.{Below}
 use Rattle.base_lists.proofs.Tests.{cond-le}
 use Rattle.graph_gather.specs.Having.{having, numbered}
@@ -26,18 +26,18 @@ keep-next p queue queue₀ kept i v h k e q = go (p v) ∙ sym more
 
 pub loop-i-init : goal.loop-i-init
 unfolding having
-loop-i-init c = (omega arith, omega arith, refl, refl, λ j h. refl)
+loop-i-init c = (omega arith, refl, λ j h. refl)
 
 -- there is room for the next node
 room : (c : In-loop-i) → (c.loop-i.i < length c.loop-i.queue) × (c.loop-i.kept < length c.loop-i.queue) × (c.loop-i.i < 65536)
 room c =
-    (omega (arith, c.loop-i.invariant.2, c.requires.0), omega (arith, c.loop-i.invariant.1, c.loop-i.invariant.2, c.requires.0), omega (arith, c.requires.0, c.requires.1))
+    (omega (arith, c.loop-i.auto.queue, c.requires.0), omega (arith, c.loop-i.invariant.0, c.loop-i.auto.queue, c.requires.0), omega (arith, c.requires.0, c.requires.1))
 
 -- it has a number
 node : (c : In-loop-i) → get_or c.loop-i.queue c.loop-i.i 0 < length c.args.numbers.now
 unfolding Below
 node c =
-    subst (λ (v : ℕ). v < length c.args.numbers.now) (get_or-take c.args.k c.args.queue.now c.loop-i.i 0 c.loop-i-test.true ∙ sym (c.loop-i.invariant.4 c.loop-i.i (le_refl _)))
+    subst (λ (v : ℕ). v < length c.args.numbers.now) (get_or-take c.args.k c.args.queue.now c.loop-i.i 0 c.loop-i-test.true ∙ sym (c.loop-i.invariant.2 c.loop-i.i (le_refl _)))
     (c.requires.2 c.loop-i.i (rw (length-take-le c.args.k c.args.queue.now c.requires.0) c.loop-i-test.true))
 
 pub loop-i-preserved : goal.loop-i-preserved
@@ -45,50 +45,24 @@ loop-i-preserved c =
     let r = room (goal.at.loop-i-preserved c).In-loop-i in
     let v = get_or c.loop-i.queue c.loop-i.i 0 in
     let p : ℕ → Bool = numbered c.args.numbers.now c.args.x in (
-      omega (arith, c.loop-i-test.true),
-      omega (arith, c.count_equal-kept.ensures, cond-le (p v), c.loop-i.invariant.1),
-      length-set c.loop-i.queue c.loop-i.kept v ∙ c.loop-i.invariant.2,
-      rw c.count_equal-kept.ensures (keep-next p c.loop-i.queue c.args.queue.now c.loop-i.kept c.loop-i.i v (omega (arith, c.loop-i.invariant.2)) r.1 (c.loop-i.invariant.4 c.loop-i.i (le_refl _)) c.loop-i.invariant.3),
-      λ j h. get_or-set_other c.loop-i.queue c.loop-i.kept j v 0 (λ e. omega (arith, c.loop-i.invariant.1)) ∙ c.loop-i.invariant.4 j (omega arith),
+      omega (arith, c.count_equal-kept.ensures, cond-le (p v), c.loop-i.invariant.0),
+      rw c.count_equal-kept.ensures (keep-next p c.loop-i.queue c.args.queue.now c.loop-i.kept c.loop-i.i v (omega (arith, c.loop-i.auto.queue)) r.1 (c.loop-i.invariant.2 c.loop-i.i (le_refl _)) c.loop-i.invariant.1),
+      λ j h. get_or-set_other c.loop-i.queue c.loop-i.kept j v 0 (λ e. omega (arith, c.loop-i.invariant.0)) ∙ c.loop-i.invariant.2 j (omega arith),
     )
 
 pub returns : goal.returns
 returns c =
-    let e : c.loop-i.i ≡ c.args.k = omega (arith, c.loop-i-test.false, c.loop-i.invariant.0) in
+    let e : c.loop-i.i ≡ c.args.k = omega (arith, c.loop-i-test.false) in
     record {
-      upper_bound = omega (arith, c.loop-i.invariant.1, c.loop-i.invariant.0, c.loop-i.invariant.2, c.requires.0);
-      queue_after = c.loop-i.invariant.3 ∙ ap (λ (m : ℕ). having (numbered c.args.numbers.now c.args.x) (take m c.args.queue.now)) e;
+      upper_bound = omega (arith, c.loop-i.invariant.0, c.loop-i.auto.queue, c.requires.0);
+      queue_after = c.loop-i.invariant.1 ∙ ap (λ (m : ℕ). having (numbered c.args.numbers.now c.args.x) (take m c.args.queue.now)) e;
     }
-
-pub offset_bounds-queue-i : goal.offset_bounds-queue-i
-offset_bounds-queue-i c = omega (arith, room (goal.at.offset_bounds-queue-i c).In-loop-i)
-
-pub bounds-queue-i : goal.bounds-queue-i
-bounds-queue-i c = omega (arith, room (goal.at.bounds-queue-i c).In-loop-i)
-
-pub overflow_cast-at : goal.overflow_cast-at
-overflow_cast-at c = omega (arith, c.slice_known-in-loop-i-1.given c.loop-i.i)
-
-pub offset_bounds-queue-kept : goal.offset_bounds-queue-kept
-offset_bounds-queue-kept c = omega (arith, room (goal.at.offset_bounds-queue-kept c).In-loop-i)
 
 pub bounds-queue-kept : goal.bounds-queue-kept
 bounds-queue-kept c = omega (arith, room (goal.at.bounds-queue-kept c).In-loop-i)
 
-pub offset_bounds-numbers-at : goal.offset_bounds-numbers-at
-offset_bounds-numbers-at c = omega (arith, node (goal.at.offset_bounds-numbers-at c).In-loop-i, c.slice_known-in-loop-i-1.given c.loop-i.i)
-
-pub bounds-numbers-at : goal.bounds-numbers-at
-bounds-numbers-at c = node (goal.at.bounds-numbers-at c).In-loop-i
+pub bounds-numbers-v : goal.bounds-numbers-v
+bounds-numbers-v c = node (goal.at.bounds-numbers-v c).In-loop-i
 
 pub count_equal-kept-requires : goal.count_equal-kept-requires
-count_equal-kept-requires c = omega (arith, room (goal.at.count_equal-kept-requires c).In-loop-i, c.loop-i.invariant.1)
-
-pub overflow_add-i : goal.overflow_add-i
-overflow_add-i c = omega (arith, room (goal.at.overflow_add-i c).In-loop-i)
-
-pub loop-i-smaller : goal.loop-i-smaller
-loop-i-smaller c = omega arith
-
-pub shape_of-queue : goal.shape_of-queue
-shape_of-queue c = c.loop-i.invariant.2
+count_equal-kept-requires c = omega (arith, room (goal.at.count_equal-kept-requires c).In-loop-i, c.loop-i.invariant.0)

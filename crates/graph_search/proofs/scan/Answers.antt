@@ -1,38 +1,29 @@
 -- `graph_search::scan` meets its contract. The loop's invariant: from the state that the tables stand for, the visits that are left
--- lead to the state that all of them lead to. The measure is how many are left. Assumes nothing.
+-- lead to the state that all of them lead to. Assumes nothing.
 use Rattle.base_lists.specs.Kit.{◌∙◌, sym, refl, arith}
 use Rattle.base_lists.specs.List.{Below}
 use Rattle.graph.proofs.BfsSteps.{scan-next, scan-end}
 use Rattle.graph_search.proofs.scan.Goals as goal
 
-pub loop-i-init : goal.loop-i-init
-loop-i-init c = (omega arith, refl, refl, c.requires.searching, refl)
+pub loop-v-init : goal.loop-v-init
+loop-v-init c = (c.requires.searching, refl)
 
 pub visit-tail-requires : goal.visit-tail-requires
 unfolding Below
 visit-tail-requires c =
     record {
-      searching = c.loop-i.invariant.3;
-      v_in_bounds = rw c.loop-i.invariant.1 (c.requires.below c.loop-i.i (omega arith));
+      searching = c.loop-v.invariant.0;
+      v_in_bounds = rw c.loop-v.auto.dist (c.requires.below c.loop-v.v-index (omega arith));
       d_lt_far = c.requires.d_lt_far;
     }
 
-pub overflow_add-i : goal.overflow_add-i
-overflow_add-i c = omega arith
-
-pub loop-i-smaller : goal.loop-i-smaller
-loop-i-smaller c = omega arith
-
-pub loop-i-preserved : goal.loop-i-preserved
-loop-i-preserved c = (
-  omega arith,
-  c.visit-tail.auto.dist ∙ c.loop-i.invariant.1,
-  c.visit-tail.auto.queue ∙ c.loop-i.invariant.2,
+pub loop-v-preserved : goal.loop-v-preserved
+loop-v-preserved c = (
   c.visit-tail.ensures.kept,
-  scan-next c.args.d _ _ c.args.part.now c.loop-i.i (omega arith) c.visit-tail.ensures.state
-      ∙ c.loop-i.invariant.4,
+  scan-next c.args.d _ _ c.args.part.now c.loop-v.v-index (omega arith) c.visit-tail.ensures.state
+      ∙ c.loop-v.invariant.1,
 )
 
 pub returns : goal.returns
 returns c =
-    record { state = sym (scan-end c.args.d _ c.args.part.now c.loop-i.i c.loop-i-test.false) ∙ c.loop-i.invariant.4; kept = c.loop-i.invariant.3 }
+    record { state = sym (scan-end c.args.d _ c.args.part.now c.loop-v.v-index (omega arith)) ∙ c.loop-v.invariant.1; kept = c.loop-v.invariant.0 }

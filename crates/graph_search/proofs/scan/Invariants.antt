@@ -1,17 +1,11 @@
 -- `graph_search::scan` meets its contract. The loop's invariant: from the state that the tables stand for, the visits that are left
--- lead to the state that all of them lead to. The measure is how many are left. Assumes nothing.
-use Rattle.std.specs.Prelude.{◌≡◌, ◌≤◌, ◌-◌}
-use Rattle.base_lists.specs.Kit.{length, drop}
+-- lead to the state that all of them lead to. Assumes nothing.
+use Rattle.std.specs.Prelude.{◌≡◌}
+use Rattle.base_lists.specs.Kit.{drop}
 use Rattle.graph.specs.Bfs.{scan, state_of, Searching}
 use Rattle.graph_search.proofs.scan.Given as goal
 
-abbrev pub invariant-loop-i : goal.invariant-loop-i
-invariant-loop-i l =
-    (l.i ≤ length l.part)
-    × (length l.dist ≡ length l.initial.dist)
-    × (length l.queue ≡ length l.initial.queue)
-    × Searching l.dist l.queue l.tail
-    × (scan l.d (state_of l.dist l.queue l.tail) (drop l.i l.part) ≡ scan l.d (state_of l.initial.dist l.initial.queue l.from) l.part)
-
-abbrev pub decreases-loop-i : goal.decreases-loop-i
-decreases-loop-i l = length l.part - l.i
+abbrev pub invariant-loop-v : goal.invariant-loop-v
+invariant-loop-v l =
+    Searching l.dist l.queue l.tail
+    × (scan l.d (state_of l.dist l.queue l.tail) (drop l.v-index l.part) ≡ scan l.d (state_of l.initial.dist l.initial.queue l.from) l.part)

@@ -3,10 +3,10 @@ use Rattle.file_format.specs.Reply.{read_reply}
 use Rattle.heronditch_reply.specs.Replies.{slots, verdict_number, meant_file}
 use Rattle.heronditch_reply.proofs.of_read.Goals as goal
 
-pub returns-in-Read : goal.returns-in-Read
+pub returns-in-Ok : goal.returns-in-Ok
 unfolding slots verdict_number meant_file read_reply
-returns-in-Read c = rw (c.in-Read.is, c.accepted.ensures)
+returns-in-Ok c = rw (c.in-Ok.is, c.accepted.ensures)
 
-pub returns-in-Refused : goal.returns-in-Refused
+pub returns-in-Err : goal.returns-in-Err
 unfolding slots verdict_number meant_file read_reply
-returns-in-Refused c = rw (c.in-Refused.is, c.refused.ensures)
+returns-in-Err c = rw (c.in-Err.is, c.refused.ensures)

@@ -1,6 +1,6 @@
 -- `merge_classes::leader_labels` meets its contract. The loop's invariant: the kinds of those parts before u that lead their class are
--- stored, and `next` is how many they are. The measure is how many parts are left. Assumes nothing.
-use Rattle.std.specs.Prelude.{◌≡◌, ◌≤◌, ◌-◌}
+-- stored, and `next` is how many they are. Assumes nothing.
+use Rattle.std.specs.Prelude.{◌≡◌}
 use Rattle.base_lists.specs.Kit.{length, sets}
 use Rattle.base_lists.specs.Below.{count_below}
 use Rattle.merge.specs.Merged.{is_leader}
@@ -9,10 +9,5 @@ use Rattle.merge_classes.proofs.leader_labels.Given as goal
 
 abbrev pub invariant-loop-u : goal.invariant-loop-u
 invariant-loop-u l =
-    (l.u ≤ length l.labels)
-    × (length l.out ≡ length l.initial.out)
-    × (l.next ≡ count_below l.u (is_leader (length l.table) l.table))
+    (l.next ≡ count_below l.u (is_leader (length l.table) l.table))
     × (l.out ≡ sets l.initial.out 0 (kinds_before l.table l.labels l.u))
-
-abbrev pub decreases-loop-u : goal.decreases-loop-u
-decreases-loop-u l = length l.labels - l.u

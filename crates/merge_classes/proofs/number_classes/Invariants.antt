@@ -1,6 +1,6 @@
 -- `merge_classes::number_classes` meets its contract. The loop's invariant: the parts before u have their classes, and `next` is the
--- number of classes that they lead. The measure is how many parts are left. Assumes nothing.
-use Rattle.std.specs.Prelude.{◌≡◌, ◌≤◌, ◌-◌}
+-- number of classes that they lead. Assumes nothing.
+use Rattle.std.specs.Prelude.{◌≡◌}
 use Rattle.base_lists.specs.Kit.{length}
 use Rattle.base_lists.specs.Below.{count_below}
 use Rattle.merge.specs.Merged.{is_leader}
@@ -9,10 +9,5 @@ use Rattle.merge_classes.proofs.number_classes.Given as goal
 
 abbrev pub invariant-loop-u : goal.invariant-loop-u
 invariant-loop-u l =
-    (l.u ≤ length l.table)
-    × (length l.classes ≡ length l.initial.classes)
-    × (l.next ≡ count_below l.u (is_leader (length l.table) l.table))
+    (l.next ≡ count_below l.u (is_leader (length l.table) l.table))
     × (l.classes ≡ numbered l.table l.u l.initial.classes)
-
-abbrev pub decreases-loop-u : goal.decreases-loop-u
-decreases-loop-u l = length l.table - l.u

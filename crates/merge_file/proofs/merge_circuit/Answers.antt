@@ -6,15 +6,15 @@ use Rattle.base_lists.proofs.Parts.{length-take-room}
 use Rattle.graph.specs.Circuit.{circuit}
 use Rattle.merge.proofs.Content.{PatternContent}
 use Rattle.merge_quotient.proofs.Passes.{sound-content}
-use Rattle.merge_file.proofs.Written.{quotient-size, asked, merged-from}
+use Rattle.merge_file.proofs.Written.{quotient-size, asked, written-answer, merged-from}
 use Rattle.merge_file.proofs.merge_circuit.Goals as goal
 use Rattle.merge_file.proofs.merge_circuit.Goals.{After-me-2-1, Start}
 
 content : (c : Start) → PatternContent ((circuit c.args.labels.now c.args.starts.now c.args.ends.now))
 content c = sound-content _ _ _ c.requires.ends_value
 
-pub quotient-size-requires : goal.quotient-size-requires
-quotient-size-requires c = record {
+pub quotient-merged-requires : goal.quotient-merged-requires
+quotient-merged-requires c = record {
   ends_value = c.requires.ends_value;
   classes_len = c.requires.classes_len.0;
   in_bounds = (lit≤ tt, lit≤ tt, lit≤ tt);
@@ -23,8 +23,8 @@ quotient-size-requires c = record {
 -- each front has the size that was counted
 size :
     (c : After-me-2-1) →
-    (length (take c.quotient-size.result.nodes c.quotient-size.new.mk) ≡ c.quotient-size.result.nodes) × (length (take c.quotient-size.result.links c.quotient-size.new.ms) ≡ c.quotient-size.result.links) × (length (take c.quotient-size.result.links c.quotient-size.new.me) ≡ c.quotient-size.result.links)
-size c = quotient-size ((let fact : PatternContent ((circuit c.args.labels.now c.args.starts.now c.args.ends.now)) = sound-content _ _ _ c.requires.ends_value in fact)) c.quotient-size.ensures
+    (length (take c.quotient-merged.result.nodes c.quotient-merged.new.mk) ≡ c.quotient-merged.result.nodes) × (length (take c.quotient-merged.result.links c.quotient-merged.new.ms) ≡ c.quotient-merged.result.links) × (length (take c.quotient-merged.result.links c.quotient-merged.new.me) ≡ c.quotient-merged.result.links)
+size c = quotient-size (sound-content _ _ _ c.requires.ends_value) c.quotient-merged.ensures
 
 pub slice_bounds-mk-end : goal.slice_bounds-mk-end
 slice_bounds-mk-end c = length-take-room _ _ (size (goal.at.slice_bounds-mk-end c).After-me-2-1).0
@@ -46,9 +46,13 @@ slice_bounds-write_circuit-end-3 c = sym (size (goal.at.slice_bounds-write_circu
 
 pub write_circuit-written-requires : goal.write_circuit-written-requires
 write_circuit-written-requires c =
-    asked (content (goal.at.write_circuit-written-requires c).Start) _ c.quotient-size.ensures c.requires.labels_fit
+    asked (content (goal.at.write_circuit-written-requires c).Start) _ c.quotient-merged.ensures c.requires.labels_fit
 
 -- ---- written
+pub unwrap-requires : goal.unwrap-requires
+unwrap-requires c =
+    rw (written-answer (content (goal.at.unwrap-requires c).Start) _ c.quotient-merged.ensures _ c.requires.classes_len.1 c.write_circuit-written.ensures)
+
 pub returns : goal.returns
 returns c =
-    merged-from (content (goal.at.returns c).Start) _ c.quotient-size.ensures c.requires.classes_len.1 c.write_circuit-written.ensures
+    merged-from (content (goal.at.returns c).Start) _ c.quotient-merged.ensures _ c.requires.classes_len.1 c.write_circuit-written.ensures c.unwrap.ensures

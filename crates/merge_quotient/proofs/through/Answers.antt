@@ -78,12 +78,12 @@ scan-links-requires c =
 
 pub returns : goal.returns
 returns c =
-    record {
+    rw c.new.ensures
+    (record {
       numbered = (classed (goal.at.returns c).After-number_classes-count).1;
-      counted = c.new.ensures.0 ∙ (classed (goal.at.returns c).After-number_classes-count).0;
-      linked = c.new.ensures.1 ∙ c.scan-links.ensures.value ∙ links-count (content (goal.at.returns c).Start) _ _ (row-marks (goal.at.returns c).After-mark_rows) (classed (goal.at.returns c).After-number_classes-count).0;
+      counted = (classed (goal.at.returns c).After-number_classes-count).0;
+      linked = c.scan-links.ensures.value ∙ links-count (content (goal.at.returns c).Start) _ _ (row-marks (goal.at.returns c).After-mark_rows) (classed (goal.at.returns c).After-number_classes-count).0;
       content =
-          rw (c.new.ensures.0, c.new.ensures.1)
-          (tables-merged (content (goal.at.returns c).Start) _ _ _ _ _ _ _ _ _ _ (classed (goal.at.returns c).After-number_classes-count).0 c.scan-links.ensures.value (self (goal.at.returns c).After-match_circuits) (row-marks (goal.at.returns c).After-mark_rows)
-          c.leader_labels.ensures c.scan-links.ensures.starts_after c.scan-links.ensures.ends_after c.requires.in_bounds.0 c.requires.in_bounds.1 c.requires.in_bounds.2);
-    }
+          tables-merged (content (goal.at.returns c).Start) _ _ _ _ _ _ _ _ _ _ (classed (goal.at.returns c).After-number_classes-count).0 c.scan-links.ensures.value (self (goal.at.returns c).After-match_circuits) (row-marks (goal.at.returns c).After-mark_rows)
+          c.leader_labels.ensures c.scan-links.ensures.starts_after c.scan-links.ensures.ends_after c.requires.in_bounds.0 c.requires.in_bounds.1 c.requires.in_bounds.2;
+    })

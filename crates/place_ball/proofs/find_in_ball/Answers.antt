@@ -94,5 +94,5 @@ returns c =
       answer = f.answer;
       short = f.short;
       measured = ball-measured d c.args.around.centre c.args.around.radius c.requires.centre_in_bounds (rw c.requires.dist_len.0 at c.search-k.ensures);
-      there = λ e. (_, f.there e);
+      there = λ k e. (_, f.there k e);
     }

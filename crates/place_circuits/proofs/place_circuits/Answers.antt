@@ -1,7 +1,8 @@
 -- `place_circuits::place_circuits` meets its contract: the place is found in the ball, and where there is one it is
 -- marked, and the ball's distances are copied. Assumes nothing.
 use Rattle.std.specs.Prelude.{◌++◌, ◌≤◌}
-use Rattle.base_lists.specs.Kit.{◌∙◌, sym, ap, List, [], ℕ, length, get_or, take, drop, length-take-le, arith, not-false, not-true}
+use Rattle.std.specs.Option.{is_some}
+use Rattle.base_lists.specs.Kit.{◌∙◌, sym, ap, List, [], ℕ, length, get_or, take, drop, length-take-le, arith}
 use Rattle.graph.specs.Circuit.{circuit}
 use Rattle.file_format.specs.Circuit.{Drawn}
 use Rattle.table.specs.Prepared.{tables, Prepared}
@@ -73,24 +74,24 @@ placed : (c : After-find_in_ball-ball) (ps pe ns ne : List ℕ) →
     PlacedIn (circuit c.args.part_labels.now ps pe) (circuit c.args.node_labels.now ns ne) ((tables c.args.masks.now c.args.offsets.now c.args.targets.now)) c.args.around c.find_in_ball-ball.new.dist c.find_in_ball-ball.new.queue c.find_in_ball-ball.new.sets c.find_in_ball-ball.result
 placed c ps pe ns ne d p = c.find_in_ball-ball.ensures ps pe ns ne (drawn-tabled d p)
 
-pub returns-then-not-ball : goal.returns-then-not-ball
-returns-then-not-ball c =
+pub returns-in_default : goal.returns-in_default
+returns-in_default c =
     λ ps pe ns ne d p.
-    let b = placed (goal.at.returns-then-not-ball c).After-find_in_ball-ball ps pe ns ne d p in
-    around-none _ _ _ _ _ b.counted (sym b.answer ∙ not-true _ c.if-not-ball.true) _ _ _ _
+    let b = placed (goal.at.returns-in_default c).After-find_in_ball-ball ps pe ns ne d p in
+    around-none _ _ _ _ _ b.counted (sym b.answer ∙ ap is_some c.in_default.is) _ _ _ _
 
 pub slice_bounds-sets-end-2 : goal.slice_bounds-sets-end-2
-slice_bounds-sets-end-2 c = sets-room c.requires.some_drawn.drawn c.requires.some_drawn.prepared ((placed (goal.at.slice_bounds-sets-end-2 c).After-find_in_ball-ball c.requires.some_drawn.part_starts c.requires.some_drawn.part_ends c.requires.some_drawn.node_starts c.requires.some_drawn.node_ends c.requires.some_drawn.drawn c.requires.some_drawn.prepared)) (not-false _ c.if-not-ball.false) _ []
+slice_bounds-sets-end-2 c = sets-room c.requires.some_drawn.drawn c.requires.some_drawn.prepared ((placed (goal.at.slice_bounds-sets-end-2 c).After-find_in_ball-ball c.requires.some_drawn.part_starts c.requires.some_drawn.part_ends c.requires.some_drawn.node_starts c.requires.some_drawn.node_ends c.requires.some_drawn.drawn c.requires.some_drawn.prepared)) c.in-Some.is _ []
 
 pub slice_bounds-mark-end : goal.slice_bounds-mark-end
-slice_bounds-mark-end c = sym (cut-long c.requires.some_drawn.drawn c.requires.some_drawn.prepared ((placed (goal.at.slice_bounds-mark-end c).After-find_in_ball-ball c.requires.some_drawn.part_starts c.requires.some_drawn.part_ends c.requires.some_drawn.node_starts c.requires.some_drawn.node_ends c.requires.some_drawn.drawn c.requires.some_drawn.prepared)) (not-false _ c.if-not-ball.false) _ [])
+slice_bounds-mark-end c = sym (cut-long c.requires.some_drawn.drawn c.requires.some_drawn.prepared ((placed (goal.at.slice_bounds-mark-end c).After-find_in_ball-ball c.requires.some_drawn.part_starts c.requires.some_drawn.part_ends c.requires.some_drawn.node_starts c.requires.some_drawn.node_ends c.requires.some_drawn.drawn c.requires.some_drawn.prepared)) c.in-Some.is _ [])
 
 pub slice_bounds-queue-end-2 : goal.slice_bounds-queue-end-2
-slice_bounds-queue-end-2 c = place-room c.requires.some_drawn.drawn c.requires.some_drawn.prepared ((placed (goal.at.slice_bounds-queue-end-2 c).After-find_in_ball-ball c.requires.some_drawn.part_starts c.requires.some_drawn.part_ends c.requires.some_drawn.node_starts c.requires.some_drawn.node_ends c.requires.some_drawn.drawn c.requires.some_drawn.prepared)) (not-false _ c.if-not-ball.false) [] _
+slice_bounds-queue-end-2 c = place-room c.requires.some_drawn.drawn c.requires.some_drawn.prepared ((placed (goal.at.slice_bounds-queue-end-2 c).After-find_in_ball-ball c.requires.some_drawn.part_starts c.requires.some_drawn.part_ends c.requires.some_drawn.node_starts c.requires.some_drawn.node_ends c.requires.some_drawn.drawn c.requires.some_drawn.prepared)) c.in-Some.is [] _
 
 pub slice_bounds-mark-end-2 : goal.slice_bounds-mark-end-2
 slice_bounds-mark-end-2 c =
-    sym (length-take-le _ _ (place-room c.requires.some_drawn.drawn c.requires.some_drawn.prepared ((placed (goal.at.slice_bounds-mark-end-2 c).After-find_in_ball-ball c.requires.some_drawn.part_starts c.requires.some_drawn.part_ends c.requires.some_drawn.node_starts c.requires.some_drawn.node_ends c.requires.some_drawn.drawn c.requires.some_drawn.prepared)) (not-false _ c.if-not-ball.false) [] _))
+    sym (length-take-le _ _ (place-room c.requires.some_drawn.drawn c.requires.some_drawn.prepared ((placed (goal.at.slice_bounds-mark-end-2 c).After-find_in_ball-ball c.requires.some_drawn.part_starts c.requires.some_drawn.part_ends c.requires.some_drawn.node_starts c.requires.some_drawn.node_ends c.requires.some_drawn.drawn c.requires.some_drawn.prepared)) c.in-Some.is [] _))
 
 pub slice_bounds-mark-end-3 : goal.slice_bounds-mark-end-3
 slice_bounds-mark-end-3 c = c.requires.node_labels_in_bounds.0
@@ -113,7 +114,7 @@ slice_bounds-mark-end-8 c = sym (length-take-le _ _ c.requires.node_labels_in_bo
 pub mark-requires : goal.mark-requires
 mark-requires c =
     let b = (placed (goal.at.mark-requires c).After-find_in_ball-ball c.requires.some_drawn.part_starts c.requires.some_drawn.part_ends c.requires.some_drawn.node_starts c.requires.some_drawn.node_ends c.requires.some_drawn.drawn c.requires.some_drawn.prepared) in
-    let f = not-false _ c.if-not-ball.false in
+    let f = c.in-Some.is in
     let m = get_or c.args.offsets.now (length c.args.node_labels.now) 0 in
     let long = cut-long c.requires.some_drawn.drawn c.requires.some_drawn.prepared b f _ [] in record {
       ready = cut-ready c.requires.some_drawn.drawn c.requires.some_drawn.prepared b f _ [];
@@ -125,25 +126,25 @@ mark-requires c =
 
 pub slice_bounds-dist-end-2 : goal.slice_bounds-dist-end-2
 slice_bounds-dist-end-2 c =
-    dist-room c.requires.some_drawn.drawn c.requires.some_drawn.prepared ((placed (goal.at.slice_bounds-dist-end-2 c).After-find_in_ball-ball c.requires.some_drawn.part_starts c.requires.some_drawn.part_ends c.requires.some_drawn.node_starts c.requires.some_drawn.node_ends c.requires.some_drawn.drawn c.requires.some_drawn.prepared)) (not-false _ c.if-not-ball.false) _ []
+    dist-room c.requires.some_drawn.drawn c.requires.some_drawn.prepared ((placed (goal.at.slice_bounds-dist-end-2 c).After-find_in_ball-ball c.requires.some_drawn.part_starts c.requires.some_drawn.part_ends c.requires.some_drawn.node_starts c.requires.some_drawn.node_ends c.requires.some_drawn.drawn c.requires.some_drawn.prepared)) c.in-Some.is _ []
 
 pub slice_bounds-copy-end : goal.slice_bounds-copy-end
 slice_bounds-copy-end c =
-    sym (length-take-le _ _ (dist-room c.requires.some_drawn.drawn c.requires.some_drawn.prepared ((placed (goal.at.slice_bounds-copy-end c).After-find_in_ball-ball c.requires.some_drawn.part_starts c.requires.some_drawn.part_ends c.requires.some_drawn.node_starts c.requires.some_drawn.node_ends c.requires.some_drawn.drawn c.requires.some_drawn.prepared)) (not-false _ c.if-not-ball.false) _ []))
+    sym (length-take-le _ _ (dist-room c.requires.some_drawn.drawn c.requires.some_drawn.prepared ((placed (goal.at.slice_bounds-copy-end c).After-find_in_ball-ball c.requires.some_drawn.part_starts c.requires.some_drawn.part_ends c.requires.some_drawn.node_starts c.requires.some_drawn.node_ends c.requires.some_drawn.drawn c.requires.some_drawn.prepared)) c.in-Some.is _ []))
 
 pub copy-requires : goal.copy-requires
 copy-requires c =
-    rw (length-take-le _ _ (dist-room c.requires.some_drawn.drawn c.requires.some_drawn.prepared ((placed (goal.at.copy-requires c).After-find_in_ball-ball c.requires.some_drawn.part_starts c.requires.some_drawn.part_ends c.requires.some_drawn.node_starts c.requires.some_drawn.node_ends c.requires.some_drawn.drawn c.requires.some_drawn.prepared)) (not-false _ c.if-not-ball.false) _ [])) c.requires.node_labels_in_bounds_2.1
+    rw (length-take-le _ _ (dist-room c.requires.some_drawn.drawn c.requires.some_drawn.prepared ((placed (goal.at.copy-requires c).After-find_in_ball-ball c.requires.some_drawn.part_starts c.requires.some_drawn.part_ends c.requires.some_drawn.node_starts c.requires.some_drawn.node_ends c.requires.some_drawn.drawn c.requires.some_drawn.prepared)) c.in-Some.is _ [])) c.requires.node_labels_in_bounds_2.1
 
 pub returns : goal.returns
 returns c =
-    let f = not-false _ c.if-not-ball.false in
+    let f = c.in-Some.is in
     let n = length c.args.node_labels.now in
     let m = get_or c.args.offsets.now n 0 in
     λ ps pe ns ne d p.
     let b = placed (goal.at.returns c).After-find_in_ball-ball ps pe ns ne d p in
     let last = tabled-links (drawn-tabled d p) in
-    around-some _ _ _ _ _ b.counted (sym b.answer ∙ f) _ _ _ _
+    around-some _ _ _ _ _ b.counted (sym b.answer ∙ ap is_some f) _ _ _ _
     (ap (λ (xs : List ℕ). xs ++ drop n c.args.nodes.now) (marked-nodes d p b f _ _ c.mark.ensures.nodes_after))
     (ap (λ (xs : List ℕ). xs ++ drop m c.args.bytes.now) (marked-links d p b f _ _ (length-take-le _ _ c.requires.node_labels_in_bounds.1 ∙ last) c.mark.ensures.bytes_after)
     ∙ ap (λ (k : ℕ). place_links (circuit c.args.part_labels.now ps pe) (circuit c.args.node_labels.now ns ne) c.args.around.centre c.args.around.radius ++ drop k c.args.bytes.now) last)

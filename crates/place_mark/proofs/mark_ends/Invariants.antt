@@ -1,7 +1,7 @@
--- `place_mark::mark_ends` meets its contract. The loop's invariant: the bytes before k are marked, and the others as they were. The measure is
--- how many are left. Assumes nothing.
-use Rattle.std.specs.Prelude.{◌≡◌, ◌++◌, ◌≤◌, ◌-◌}
-use Rattle.base_lists.specs.Kit.{cond, List, ℕ, length, get_or, drop}
+-- `place_mark::mark_ends` meets its contract. The loop's invariant: the bytes before k are marked, and the others as they were.
+-- Assumes nothing.
+use Rattle.std.specs.Prelude.{◌≡◌, ◌++◌}
+use Rattle.base_lists.specs.Kit.{cond, List, ℕ, get_or, drop}
 use Rattle.base_lists.specs.List.{tabulate}
 use Rattle.base_bits.specs.Bits.{intersects}
 use Rattle.place_mark.proofs.mark_ends.Given as goal
@@ -12,7 +12,4 @@ byte ends driven sets bytes k = cond (intersects driven (get_or sets (get_or end
 
 abbrev pub invariant-loop-k : goal.invariant-loop-k
 invariant-loop-k l =
-    (l.k ≤ length l.ends) × (length l.bytes ≡ length l.initial.bytes) × (l.bytes ≡ tabulate l.k (byte l.ends l.driven l.sets l.initial.bytes) ++ drop l.k l.initial.bytes)
-
-abbrev pub decreases-loop-k : goal.decreases-loop-k
-decreases-loop-k l = length l.ends - l.k
+    l.bytes ≡ tabulate l.k (byte l.ends l.driven l.sets l.initial.bytes) ++ drop l.k l.initial.bytes

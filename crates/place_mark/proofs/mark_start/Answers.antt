@@ -7,7 +7,7 @@ use Rattle.graph.proofs.Net.{net-few}
 use Rattle.table.specs.Prepared.{tables}
 use Rattle.place_mark.proofs.Marks.{start-at, ends-length, start-marked}
 use Rattle.place_mark.proofs.mark_start.Goals as goal
-use Rattle.place_mark.proofs.mark_start.Goals.{After-shared_slice_known-6-1}
+use Rattle.place_mark.proofs.mark_start.Goals.{After-driven_parts-driven}
 
 pub neighbours_in-ends-requires : goal.neighbours_in-ends-requires
 neighbours_in-ends-requires c = record { nodes = _; net = c.requires.ready.net; node = c.requires.v_in_bounds }
@@ -19,20 +19,20 @@ pub overflow_cast-from : goal.overflow_cast-from
 overflow_cast-from c = omega (arith, c.type_inv.offsets c.args.v)
 
 -- where the node's links begin and end
-bounds : (c : After-shared_slice_known-6-1) → get_or c.args.offsets.now c.args.v 0 + length c.neighbours_in-ends.result.now ≤ length c.args.bytes.now
+bounds : (c : After-driven_parts-driven) → get_or c.args.offsets.now c.args.v 0 + length c.neighbours_in-ends.result.now ≤ length c.args.bytes.now
 unfolding neighbours_in
 bounds c =
     rw (c.neighbours_in-ends.ensures, start-at c.requires.ready.net c.args.v c.requires.v_in_bounds, ends-length c.requires.ready.net c.args.v c.requires.v_in_bounds) c.requires.v_in_bounds_2
 
 pub overflow_add-to : goal.overflow_add-to
-overflow_add-to c = omega (arith, bounds (goal.at.overflow_add-to c).After-shared_slice_known-6-1)
+overflow_add-to c = omega (arith, bounds (goal.at.overflow_add-to c).After-driven_parts-driven)
 
 pub slice_bounds-mark_ends-end : goal.slice_bounds-mark_ends-end
-slice_bounds-mark_ends-end c = bounds (goal.at.slice_bounds-mark_ends-end c).After-shared_slice_known-6-1
+slice_bounds-mark_ends-end c = bounds (goal.at.slice_bounds-mark_ends-end c).After-driven_parts-driven
 
 pub mark_ends-requires : goal.mark_ends-requires
 mark_ends-requires c =
-    let b = bounds (goal.at.mark_ends-requires c).After-shared_slice_known-6-1 in
+    let b = bounds (goal.at.mark_ends-requires c).After-driven_parts-driven in
     let a = get_or c.args.offsets.now c.args.v 0 in
     let k : a + length c.neighbours_in-ends.result.now - a ≡ length c.neighbours_in-ends.result.now = omega arith in record {
       ends_len = sym (rw k (length-take-le (length c.neighbours_in-ends.result.now) (drop a c.args.bytes.now) (omega (arith, length-drop a c.args.bytes.now))));

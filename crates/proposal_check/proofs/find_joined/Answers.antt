@@ -8,7 +8,7 @@ use Rattle.table.specs.Prepared.{tables}
 use Rattle.table.specs.Row.{both_directions}
 use Rattle.table.proofs.Begun.{started-begins}
 use Rattle.place.specs.Find.{Tabled, Sought}
-use Rattle.place.proofs.Find.{tabled-net, ball-short, ball-list, ball-sought}
+use Rattle.place.proofs.Find.{tabled-net, ball-short, ball-list, ball-sought, found-located}
 use Rattle.proposal_check.proofs.find_joined.Goals as goal
 use Rattle.proposal_check.proofs.find_joined.Goals.{After-search-k, After-start-p}
 
@@ -68,4 +68,5 @@ returns c =
     λ ps pe ns ne d.
     let g = seek (goal.at.returns c).After-start-p ps pe ns ne (length c.args.node_labels.now) c.search-k.ensures d in
     let f = c.find-place.ensures _ _ _ g in
-    record { answer = f.answer; there = λ e. (_, f.there e) }
+    let (list, there) = found-located f in
+    record { answer = c.is_some.ensures ∙ f.answer; there = λ e. (list, there (sym c.is_some.ensures ∙ e)) }

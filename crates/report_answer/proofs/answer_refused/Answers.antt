@@ -3,7 +3,7 @@ use Rattle.report_answer.proofs.Outcome.{outcome-short, outcome-put}
 use Rattle.report_answer.proofs.answer_refused.Goals as goal
 
 pub returns-then-out-lt-LONGEST_REFUSAL : goal.returns-then-out-lt-LONGEST_REFUSAL
-returns-then-out-lt-LONGEST_REFUSAL c = outcome-short _ _ _ c.too_short.ensures c.if-out-lt-LONGEST_REFUSAL.true
+returns-then-out-lt-LONGEST_REFUSAL c = outcome-short _ _ _ c.if-out-lt-LONGEST_REFUSAL.true
 
 pub returns : goal.returns
 returns c = outcome-put _ _ _ c.if-out-lt-LONGEST_REFUSAL.false c.put_refused.ensures

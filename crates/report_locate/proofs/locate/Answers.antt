@@ -6,6 +6,7 @@ use Rattle.graph.specs.Circuit.{Circuit}
 use Rattle.table.specs.Fill.{NodeList}
 use Rattle.table.specs.Prepared.{tables}
 use Rattle.place.specs.Find.{Sought}
+use Rattle.place.proofs.Find.{found-located}
 use Rattle.place_components.proofs.ComponentNumbers.{match-adjacency, marked-spread}
 use Rattle.report_locate.specs.Source.{Source, Entire}
 use Rattle.report_locate.proofs.Centre.{source-long, source-few}
@@ -99,4 +100,5 @@ find-place-requires c =
 pub returns : goal.returns
 returns c pattern board s =
     let place = c.find-place.ensures pattern board _ (sought (goal.at.returns c).After-copy-started pattern board s) in
-    record { answer = place.answer; nodes = _; there = place.there }
+    let (list, there) = found-located place in
+    record { answer = c.is_some.ensures ∙ place.answer; nodes = list; there = λ e. there (sym c.is_some.ensures ∙ e) }

@@ -1,7 +1,6 @@
--- `report_texts::put_driven` meets its contract. The loop's invariant: the links to the first i nodes of the list are put. The measure is how
--- many are left. Assumes nothing.
-use Rattle.std.specs.Prelude.{◌≤◌, ◌-◌}
-use Rattle.base_lists.specs.Kit.{List, ℕ, length, get_or}
+-- `report_texts::put_driven` meets its contract. The loop's invariant: the links to the nodes of the list so far are put. Assumes
+-- nothing.
+use Rattle.base_lists.specs.Kit.{List, ℕ, get_or}
 use Rattle.base_lists.specs.Below.{concat_below}
 use Rattle.base_text.specs.Text.{Put}
 use Rattle.report_texts.specs.Texts.{link_text}
@@ -11,8 +10,5 @@ use Rattle.report_texts.proofs.put_driven.Given as goal
 abbrev pub link_to : List ℕ → ℕ → List ℕ → ℕ → ℕ → List ℕ
 link_to nodes driven sets v i = link_text driven (get_or sets (get_or nodes i 0) 0) v (get_or nodes i 0)
 
-abbrev pub invariant-loop-i : goal.invariant-loop-i
-invariant-loop-i l = (l.i ≤ length l.nodes) × Put l.initial.out l.at (concat_below l.i (link_to l.nodes l.driven l.sets l.v)) l.out l.end
-
-abbrev pub decreases-loop-i : goal.decreases-loop-i
-decreases-loop-i l = length l.nodes - l.i
+abbrev pub invariant-loop-node : goal.invariant-loop-node
+invariant-loop-node l = Put l.initial.out l.at (concat_below l.node-index (link_to l.nodes l.driven l.sets l.v)) l.out l.end

@@ -14,4 +14,4 @@ pub returns : goal.returns
 unfolding occur_or_none
 returns c =
     let sized = ap size_of (sym c.occurring.ensures) ∙ sym c.size.ensures in
-    rw (ne_eqb _ _ (λ e. c.if-size-parts.false (sym sized ∙ e))) c.clear.ensures
+    rw (ne_eqb _ _ (λ e. c.if-size-parts.false (sym sized ∙ e))) c.fill.ensures

@@ -29,7 +29,7 @@ overflow_cast-fixed-2 c = omega (arith, c.type_inv.fixed 64)
 
 pub slice_bounds-all_or_none-end-2 : goal.slice_bounds-all_or_none-end-2
 slice_bounds-all_or_none-end-2 c =
-    sym (length-take-le _ _ (omega (arith, c.copy.auto.table, c.if-table-n.false)))
+    sym (length-take-le _ _ (omega (arith, c.copy.auto.out, c.if-table-n.false)))
 
 pub returns : goal.returns
 returns c =

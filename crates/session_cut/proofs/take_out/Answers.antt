@@ -1,11 +1,9 @@
 -- `session_cut::take_out` meets its contract. Assumes nothing.
-use Rattle.std.specs.Prelude.{◌≤◌, ◌<◌, ◌+◌}
+use Rattle.std.specs.Prelude.{◌≤◌, ◌<◌, ◌+◌, Option, Some}
 use Rattle.base_lists.specs.Kit.{sym, subst, ap₂, ℕ, length-set, arith}
 use Rattle.base_lists.proofs.Entries.{get_d_any}
 use Rattle.graph.specs.Search.{far}
 use Rattle.session.specs.State.{ends_without}
-use Rattle.session_cut.specs.declared.Taken.{Taken}
-use Rattle.session_cut.specs.declared.Taken.TheVariants.{Link}
 use Rattle.session_cut.specs.Cut.{TakenOut}
 use Rattle.session_cut.proofs.Cuts.{gone-place, gone-end, taken-link}
 use Rattle.session_cut.proofs.take_out.Goals as goal
@@ -30,5 +28,5 @@ pub returns : goal.returns
 returns c =
     let end = get_d_any c.args.ends.now c.args.link_index 0 far (omega (arith, c.requires)) in
     let first = get_d_any c.args.ends.now (4096 + c.args.link_index) 0 far (omega (arith, c.requires)) in
-    subst (λ (x : Taken). TakenOut c.args.ends.now c.args.nodes c.args.link_index x (ends_without c.args.ends.now c.args.link_index)) (ap₂ (λ (x y : ℕ). Link x y) (sym first) (sym end))
+    subst (λ (x : Option (ℕ × ℕ)). TakenOut c.args.ends.now c.args.nodes c.args.link_index x (ends_without c.args.ends.now c.args.link_index)) (ap₂ (λ (x y : ℕ). Some (x, y)) (sym first) (sym end))
     (taken-link c.args.ends.now c.args.nodes c.args.link_index c.if-link_index-ge-FORWARD_TARGETS.false (subst (λ (x : ℕ). x < c.args.nodes) end c.if-nodes-end.false))

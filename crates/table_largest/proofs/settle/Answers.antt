@@ -2,7 +2,7 @@
 -- nodes that change are listed, each with its next set; and nothing is marked. The measure is how many pairs there are, which falls with each
 -- round. Assumes nothing.
 use Rattle.std.specs.Prelude.{◌≡◌, ◌≤◌, ◌<◌}
-use Rattle.base_lists.specs.Kit.{◌∙◌, sym, ap, refl, ℕ, length, take, replicate, length-replicate, length-take-le, arith}
+use Rattle.base_lists.specs.Kit.{◌∙◌, sym, ap, ℕ, length, take, replicate, length-replicate, length-take-le, arith}
 use Rattle.base_lists.specs.List.{part}
 use Rattle.graph.specs.Bfs.{state_of}
 use Rattle.graph.specs.Search.{far}
@@ -29,20 +29,16 @@ loop-n-init c = (
   round-start c.requires.started_value,
   record { todo = _; due = c.requires.due; pending = c.changes-n.ensures },
   c.requires.marks_value.0,
-  refl,
-  c.requires.marks_value.1,
-  c.changes-n.auto.changed ∙ c.requires.changed_len.0,
-  c.changes-n.auto.next ∙ c.requires.changed_len.1,
 )
 
 -- the nodes that change fit their lists
 room : (loop : At-loop-n) → (loop.loop-n.n ≤ length loop.loop-n.changed) × (loop.loop-n.n ≤ length loop.loop-n.new)
 room loop =
-    (omega (arith, noticed-few loop.loop-n.invariant.0 loop.loop-n.invariant.1, loop.loop-n.invariant.3, loop.loop-n.invariant.5), omega (arith, noticed-few loop.loop-n.invariant.0 loop.loop-n.invariant.1, loop.loop-n.invariant.3, loop.loop-n.invariant.6))
+    (omega (arith, noticed-few loop.loop-n.invariant.0 loop.loop-n.invariant.1, loop.loop-n.auto.table, (loop.loop-n.auto.changed ∙ loop.changes-n.auto.changed ∙ loop.requires.changed_len.0)), omega (arith, noticed-few loop.loop-n.invariant.0 loop.loop-n.invariant.1, loop.loop-n.auto.table, (loop.loop-n.auto.new ∙ loop.changes-n.auto.next ∙ loop.requires.changed_len.1)))
 
 -- the marks go with the table as it is
 clean : (loop : At-loop-n) → loop.loop-n.marks ≡ replicate (length loop.loop-n.table) far
-clean loop = rw loop.loop-n.invariant.3 loop.loop-n.invariant.2
+clean loop = rw loop.loop-n.auto.table loop.loop-n.invariant.2
 
 pub slice_bounds-write-end : goal.slice_bounds-write-end
 slice_bounds-write-end c = (room (goal.at.slice_bounds-write-end c).At-loop-n).0
@@ -69,7 +65,7 @@ changed-some c e = omega (arith, c.loop-n-test.true)
 
 fewer : (c : After-write-kept) → c.write-kept.result < c.loop-n.kept
 fewer c =
-    round-less c.loop-n.invariant.0 c.loop-n.invariant.1 c.write-kept.ensures (c.loop-n.invariant.5 ∙ sym c.loop-n.invariant.3) (changed-some c)
+    round-less c.loop-n.invariant.0 c.loop-n.invariant.1 c.write-kept.ensures ((c.loop-n.auto.changed ∙ c.changes-n.auto.changed ∙ c.requires.changed_len.0) ∙ sym c.loop-n.auto.table) (changed-some c)
 
 pub overflow_add-rounds : goal.overflow_add-rounds
 overflow_add-rounds c =
@@ -84,9 +80,9 @@ slice_bounds-list_beside-end-in-loop-n c = sym (length-take-le _ _ (room (goal.a
 pub list_beside-k-requires : goal.list_beside-k-requires
 list_beside-k-requires c =
     let long = new-long c.loop-n.invariant.0 c.loop-n.invariant.1 c.write-kept.ensures in record {
-      searching = marks-searching c.loop-n.invariant.2 c.loop-n.invariant.4;
+      searching = marks-searching c.loop-n.invariant.2 (c.loop-n.auto.todo ∙ c.requires.marks_value.1);
       net = (new-ready c.loop-n.invariant.0 c.loop-n.invariant.1 c.write-kept.ensures).net;
-      sets_len = long ∙ c.loop-n.invariant.3 ∙ sym (ap length c.loop-n.invariant.2 ∙ length-replicate _ far);
+      sets_len = long ∙ c.loop-n.auto.table ∙ sym (ap length c.loop-n.invariant.2 ∙ length-replicate _ far);
       below = rw long (noticed-below c.loop-n.invariant.0 c.loop-n.invariant.1);
     }
 
@@ -101,8 +97,9 @@ due : (c : After-list_beside-k) →
     Due (tables c.args.masks.now c.args.offsets.now c.args.targets.now) c.write-kept.new.table
     (take c.list_beside-k.result c.list_beside-k.new.todo)
 due c =
-    woken-due c.loop-n.invariant.0 c.loop-n.invariant.1 c.write-kept.ensures c.loop-n.todo ((let fact : c.loop-n.marks ≡ replicate (length c.loop-n.table) far = rw c.loop-n.invariant.3 c.loop-n.invariant.2 in fact)) c.list_beside-k.ensures
-    (c.list_beside-k.auto.marks ∙ ap length ((let fact : c.loop-n.marks ≡ replicate (length c.loop-n.table) far = rw c.loop-n.invariant.3 c.loop-n.invariant.2 in fact)) ∙ length-replicate _ far)
+    let clean : c.loop-n.marks ≡ replicate (length c.loop-n.table) far = rw c.loop-n.auto.table c.loop-n.invariant.2 in
+    woken-due c.loop-n.invariant.0 c.loop-n.invariant.1 c.write-kept.ensures c.loop-n.todo clean c.list_beside-k.ensures
+    (c.list_beside-k.auto.marks ∙ ap length clean ∙ length-replicate _ far)
 
 pub changes-n-requires-in-loop-n : goal.changes-n-requires-in-loop-n
 unfolding part
@@ -112,7 +109,7 @@ changes-n-requires-in-loop-n c =
       one_way_value = c.all_empty-one_way.ensures;
       ready = d.ready;
       below = d.below;
-      todo_in_bounds = (omega (arith, d.few, long, c.loop-n.invariant.3, c.loop-n.invariant.5), omega (arith, d.few, long, c.loop-n.invariant.3, c.loop-n.invariant.6));
+      todo_in_bounds = (omega (arith, d.few, long, c.loop-n.auto.table, (c.loop-n.auto.changed ∙ c.changes-n.auto.changed ∙ c.requires.changed_len.0)), omega (arith, d.few, long, c.loop-n.auto.table, (c.loop-n.auto.new ∙ c.changes-n.auto.next ∙ c.requires.changed_len.1)));
     }
 
 pub unmark-requires : goal.unmark-requires
@@ -124,29 +121,12 @@ loop-n-smaller c = fewer (goal.at.loop-n-smaller c).After-write-kept
 
 pub loop-n-preserved : goal.loop-n-preserved
 loop-n-preserved c = (
-  round-next c.loop-n.invariant.0 c.loop-n.invariant.1 c.write-kept.ensures (c.loop-n.invariant.5 ∙ sym c.loop-n.invariant.3) (changed-some (goal.at.loop-n-preserved c).After-write-kept),
+  round-next c.loop-n.invariant.0 c.loop-n.invariant.1 c.write-kept.ensures ((c.loop-n.auto.changed ∙ c.changes-n.auto.changed ∙ c.requires.changed_len.0) ∙ sym c.loop-n.auto.table) (changed-some (goal.at.loop-n-preserved c).After-write-kept),
   record { todo = _; due = due (goal.at.loop-n-preserved c).After-list_beside-k; pending = c.changes-n-in-loop-n.ensures },
   c.unmark.ensures
       ∙ woken-clean c.loop-n.invariant.0 c.loop-n.invariant.1 c.write-kept.ensures c.loop-n.todo (clean (goal.at.loop-n-preserved c).At-loop-n) c.list_beside-k.ensures
-      ∙ ap (λ (n : ℕ). replicate n far) c.loop-n.invariant.3,
-  new-long c.loop-n.invariant.0 c.loop-n.invariant.1 c.write-kept.ensures ∙ c.loop-n.invariant.3,
-  c.list_beside-k.auto.todo ∙ c.loop-n.invariant.4,
-  c.changes-n-in-loop-n.auto.changed ∙ c.loop-n.invariant.5,
-  c.changes-n-in-loop-n.auto.next ∙ c.loop-n.invariant.6,
+      ∙ ap (λ (n : ℕ). replicate n far) c.loop-n.auto.table,
 )
-
-pub shape_of-marks : goal.shape_of-marks
-shape_of-marks c =
-    ap length (c.loop-n.invariant.2 ∙ sym c.requires.marks_value.0)
-
-pub shape_of-todo : goal.shape_of-todo
-shape_of-todo c = c.loop-n.invariant.4 ∙ sym c.requires.marks_value.1
-
-pub shape_of-changed : goal.shape_of-changed
-shape_of-changed c = c.loop-n.invariant.5 ∙ sym c.requires.changed_len.0
-
-pub shape_of-new : goal.shape_of-new
-shape_of-new c = c.loop-n.invariant.6 ∙ sym c.requires.changed_len.1
 
 pub returns : goal.returns
 returns c =
@@ -154,6 +134,3 @@ returns c =
       settled = round-last c.loop-n.invariant.0 c.loop-n.invariant.1 (omega arith);
       marks_unchanged = c.loop-n.invariant.2 ∙ sym c.requires.marks_value.0;
     }
-
-pub shape_of-table : goal.shape_of-table
-shape_of-table c = c.loop-n.invariant.3

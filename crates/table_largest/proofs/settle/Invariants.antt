@@ -14,11 +14,6 @@ invariant-loop-n l =
     Round (tables l.masks l.offsets l.targets) l.initial.table l.table l.kept l.rounds
     × Noticed (tables l.masks l.offsets l.targets) l.table l.changed l.new l.n
     × (l.marks ≡ replicate (length l.initial.table) far)
-    × (length l.table ≡ length l.initial.table)
-    × (length l.todo ≡ length l.initial.table)
-    × (length l.changed ≡ length l.initial.table)
-    × (length l.new ≡ length l.initial.table)
 
 abbrev pub decreases-loop-n : goal.decreases-loop-n
-decreases-loop-n l =
-    l.kept
+decreases-loop-n l = l.kept

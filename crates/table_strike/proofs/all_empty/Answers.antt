@@ -1,20 +1,14 @@
--- `table_strike::all_empty` meets its contract. The loop's invariant: `union` is the union of the masks passed. The measure is how many are left.
--- Assumes nothing.
-use Rattle.base_lists.specs.Kit.{arith}
-use Rattle.table_strike.proofs.Survivors.{union-start, union-next, union-end}
+-- `table_strike::all_empty` meets its contract. Assumes nothing.
+use Rattle.base_lists.specs.Kit.{◌∙◌, eqb, rules}
+use Rattle.std.proofs.lemmas.Iterator.{YieldsList-from_slice}
+use Rattle.std.proofs.lemmas.Iterator.Search.{all_from_yields_List}
+use borrow.Author.Tests.{tests}
+use Rattle.table_strike.specs.Strike.{all_empty}
+use Rattle.table_strike.proofs.Survivors.{list_all-is-all}
 use Rattle.table_strike.proofs.all_empty.Goals as goal
 
-pub loop-i-init : goal.loop-i-init
-loop-i-init c = union-start _
-
-pub overflow_add-i : goal.overflow_add-i
-overflow_add-i c = omega arith
-
-pub loop-i-smaller : goal.loop-i-smaller
-loop-i-smaller c = omega arith
-
-pub loop-i-preserved : goal.loop-i-preserved
-loop-i-preserved c = union-next c.loop-i.invariant (omega arith)
-
 pub returns : goal.returns
-returns c = union-end c.loop-i.invariant c.loop-i-test.false
+unfolding all_empty
+returns c =
+    all_from_yields_List (λ m. eqb m 0) _ _ _ c.all.ensures.ran (YieldsList-from_slice c.args.masks.now cc) (λ x b q k. search (rules, tests))
+    ∙ list_all-is-all (λ m. eqb m 0) c.args.masks.now

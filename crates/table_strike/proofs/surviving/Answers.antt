@@ -8,7 +8,7 @@ use Rattle.base_bits.proofs.Members.{first-lt, first_below, without-lt}
 use Rattle.table_strike.specs.Strike.{survivors}
 use Rattle.table_strike.proofs.Survivors.{survivors-none, turn-stays, turn-first, turn-second}
 use Rattle.table_strike.proofs.surviving.Goals as goal
-use Rattle.table_strike.proofs.surviving.Goals.{After-first-u, Joined-subset, then-subset+then-subset-2, then-subset+else-subset-2, else-subset}
+use Rattle.table_strike.proofs.surviving.Goals.{After-first-u, Joined-subset, then-subset+then-subset-2, else-subset, else-subset-via-then-subset+else-subset-2, else-subset-via-else-subset}
 
 pub loop-left-init : goal.loop-left-init
 loop-left-init c = (omega arith, or_zero_l _)
@@ -66,14 +66,15 @@ joined c =
           ∙ turn-stays c.args.succ.now c.args.pred.now c.args.f c.args.b c.loop-left.left p h c.loop-left.kept (first ∙ w.if-subset.true)
           (ap (λ (x : ℕ). subset_of (get_or c.args.pred.now x 0) c.args.b) (sym u) ∙ sym w.subset-then-subset.ensures ∙ w.if-subset-2.true)
           ∙ c.loop-left.invariant.1
-      | then-subset+else-subset-2 w ↦
-          ap (λ (k : ℕ). bit_or k rest) w.kept-is
-          ∙ turn-second c.args.succ.now c.args.pred.now c.args.f c.args.b c.loop-left.left p h c.loop-left.kept
-          (ap (λ (x : ℕ). subset_of (get_or c.args.pred.now x 0) c.args.b) (sym u) ∙ sym w.subset-then-subset.ensures ∙ w.if-subset-2.false)
-          ∙ c.loop-left.invariant.1
       | else-subset w ↦
           ap (λ (k : ℕ). bit_or k rest) w.kept-is
-          ∙ turn-first c.args.succ.now c.args.pred.now c.args.f c.args.b c.loop-left.left p h c.loop-left.kept (first ∙ w.if-subset.false)
+          ∙ elim w.else-subset.branch [
+            | else-subset-via-then-subset+else-subset-2 w' ↦
+                turn-second c.args.succ.now c.args.pred.now c.args.f c.args.b c.loop-left.left p h c.loop-left.kept
+                (ap (λ (x : ℕ). subset_of (get_or c.args.pred.now x 0) c.args.b) (sym u) ∙ sym w'.subset-then-subset.ensures ∙ w'.if-subset-2.false)
+            | else-subset-via-else-subset w' ↦
+                turn-first c.args.succ.now c.args.pred.now c.args.f c.args.b c.loop-left.left p h c.loop-left.kept (first ∙ w'.if-subset.false)
+          ]
           ∙ c.loop-left.invariant.1
     ]
 

@@ -5,4 +5,4 @@ use Rattle.test_board.proofs.step.Goals as goal
 
 pub returns : goal.returns
 unfolding step
-returns c = omega (arith, c.wrapping_add_u32.ensures, c.wrapping_mul.ensures)
+returns c = omega arith

@@ -1,12 +1,7 @@
 -- `barring_find::dropping::drop_links` meets its contract. The loop's invariant: the links before i are gone through, and what is left to do comes to
--- the kept links. The measure is how many are left. Assumes nothing.
-use Rattle.std.specs.Prelude.{◌≡◌, ◌-◌}
-use Rattle.base_lists.specs.Kit.{length}
+-- the kept links. Assumes nothing.
 use Rattle.barring_find.proofs.Drops.{Dropping}
 use Rattle.barring_find.proofs.dropping.drop_links.Given as goal
 
 abbrev pub invariant-loop-i : goal.invariant-loop-i
-invariant-loop-i l = Dropping l.starts l.ends l.offsets l.targets l.w l.nodes l.first l.marks l.i × (length l.marks ≡ length l.initial.marks)
-
-abbrev pub decreases-loop-i : goal.decreases-loop-i
-decreases-loop-i l = length l.initial.marks - l.i
+invariant-loop-i l = Dropping l.starts l.ends l.offsets l.targets l.w l.nodes l.first l.marks l.i

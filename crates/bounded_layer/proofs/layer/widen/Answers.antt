@@ -1,6 +1,6 @@
 -- `bounded_layer::layer::widen` meets its contract. The loop's invariant: the first v sets are those of the next layer, and the others as they
--- were. The measure is how many are left. Assumes nothing.
-use Rattle.base_lists.specs.Kit.{◌∙◌, ap, refl, ℕ, get_or, length-set, arith}
+-- were. Assumes nothing.
+use Rattle.base_lists.specs.Kit.{◌∙◌, ap, ℕ, get_or, arith}
 use lib.Bits.{bit_or}
 use Rattle.base_lists.specs.List.{tabulate}
 use Rattle.base_lists.proofs.Tables.{filled_none, filled-all, filled_next}
@@ -12,49 +12,25 @@ use Rattle.bounded_layer.proofs.layer.widen.Invariants.{further}
 use Rattle.bounded_layer.proofs.layer.widen.Goals as goal
 
 pub loop-v-init : goal.loop-v-init
-loop-v-init c = (omega arith, refl, filled_none _ _)
+loop-v-init c = filled_none _ _
 
 pub neighbours_in-near-requires : goal.neighbours_in-near-requires
 neighbours_in-near-requires c =
-    record { nodes = _; net = c.requires.net; node = omega (arith, c.requires.layer_len.1, c.loop-v.invariant.1) }
-
-pub offset_bounds-old-v : goal.offset_bounds-old-v
-offset_bounds-old-v c = omega arith
-
-pub bounds-old-v : goal.bounds-old-v
-bounds-old-v c = omega arith
+    record { nodes = _; net = c.requires.net; node = omega (arith, c.requires.layer_len.1) }
 
 pub union_at-requires : goal.union_at-requires
 union_at-requires c =
-    rw (c.neighbours_in-near.ensures, c.requires.layer_len.0) (neighbours-below c.args.direction c.requires.net _ (omega (arith, c.requires.layer_len.1, c.loop-v.invariant.1)))
-
-pub offset_bounds-next-v : goal.offset_bounds-next-v
-offset_bounds-next-v c = omega arith
-
-pub bounds-next-v : goal.bounds-next-v
-bounds-next-v c = omega arith
-
-pub overflow_add-v : goal.overflow_add-v
-overflow_add-v c = omega arith
-
-pub loop-v-smaller : goal.loop-v-smaller
-loop-v-smaller c = omega arith
+    rw (c.neighbours_in-near.ensures, c.requires.layer_len.0) (neighbours-below c.args.direction c.requires.net _ (omega (arith, c.requires.layer_len.1)))
 
 pub loop-v-preserved : goal.loop-v-preserved
 unfolding further
 loop-v-preserved c =
-    let rule : ℕ → ℕ = further (neighbours_in c.args.direction c.args.offsets.now c.args.targets.now) c.args.old.now c.args.layer.now in (
-      omega arith,
-      simp length-set c.loop-v.invariant.1,
-      filled_next rule c.args.next.now c.loop-v.next c.loop-v.v _ (omega arith) c.loop-v.invariant.2
-          (ap (bit_or (get_or c.args.old.now c.loop-v.v 0)) (c.union_at.ensures ∙ ap (union_at c.args.layer.now) c.neighbours_in-near.ensures)),
-    )
-
-pub shape_of-next : goal.shape_of-next
-shape_of-next c = c.loop-v.invariant.1
+    let rule : ℕ → ℕ = further (neighbours_in c.args.direction c.args.offsets.now c.args.targets.now) c.args.old.now c.args.layer.now in
+    filled_next rule c.args.next.now c.loop-v.next c.loop-v.v _ (omega arith) c.loop-v.invariant
+    (ap (bit_or (get_or c.args.old.now c.loop-v.v 0)) (c.union_at.ensures ∙ ap (union_at c.args.layer.now) c.neighbours_in-near.ensures))
 
 pub returns : goal.returns
 unfolding next_layer further
 returns c =
     let rule : ℕ → ℕ = further (neighbours_in c.args.direction c.args.offsets.now c.args.targets.now) c.args.old.now c.args.layer.now in
-    c.loop-v.invariant.2 ∙ filled-all c.loop-v.v rule c.args.next.now (omega arith) ∙ ap (λ (n : ℕ). tabulate n rule) c.requires.layer_len.1
+    c.loop-v.invariant ∙ filled-all c.loop-v.v rule c.args.next.now (omega arith) ∙ ap (λ (n : ℕ). tabulate n rule) c.requires.layer_len.1

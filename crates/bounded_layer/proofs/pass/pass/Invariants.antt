@@ -1,7 +1,6 @@
--- `bounded_layer::pass::pass` meets its contract. The loop's invariant: the first v sets are what is left, and the others as they were. The
--- measure is how many are left. Assumes nothing.
-use Rattle.std.specs.Prelude.{◌≡◌, ◌++◌, ◌≤◌, ◌-◌}
-use Rattle.base_lists.specs.Kit.{List, ℕ, length, get_or, drop}
+-- `bounded_layer::pass::pass` meets its contract. The loop's invariant: the first v sets are what is left, and the others as they were. Assumes nothing.
+use Rattle.std.specs.Prelude.{◌≡◌, ◌++◌}
+use Rattle.base_lists.specs.Kit.{List, ℕ, get_or, drop}
 use Rattle.base_lists.specs.List.{tabulate}
 use Rattle.base_bits.specs.Bits.{union_at}
 use Rattle.graph_neighbours.specs.Lookup.{neighbours_in}
@@ -14,7 +13,4 @@ left near masks layer new v = kept_within masks (union_at layer (near v)) (get_o
 
 abbrev pub invariant-loop-v : goal.invariant-loop-v
 invariant-loop-v l =
-    (l.v ≤ length l.initial.new) × (length l.new ≡ length l.initial.new) × (l.new ≡ tabulate l.v (left (neighbours_in l.direction l.offsets l.targets) l.masks l.layer l.initial.new) ++ drop l.v l.initial.new)
-
-abbrev pub decreases-loop-v : goal.decreases-loop-v
-decreases-loop-v l = length l.initial.new - l.v
+    l.new ≡ tabulate l.v (left (neighbours_in l.direction l.offsets l.targets) l.masks l.layer l.initial.new) ++ drop l.v l.initial.new

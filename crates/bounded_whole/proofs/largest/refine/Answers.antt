@@ -1,7 +1,7 @@
 -- `bounded_whole::largest::refine` meets its contract, as table_largest::refine does. The loop's invariant: `table` is the table after `rounds`
 -- rounds, each of which struck a pair, and has `kept` pairs. The measure is `kept`, which falls with each round. Assumes nothing.
 use Rattle.std.specs.Prelude.{◌≡◌, ◌<◌, ◌+◌}
-use Rattle.base_lists.specs.Kit.{◌∙◌, sym, refl, length, arith}
+use Rattle.base_lists.specs.Kit.{◌∙◌, sym, length, arith}
 use Rattle.table.specs.Prepared.{tables}
 use Rattle.bounded_strike.specs.Round.{Turn}
 use Rattle.bounded_whole.proofs.Rounds.{first-turn, turn-count, turn-less, turn-next, turn_last, turn_end}
@@ -9,55 +9,42 @@ use Rattle.bounded_whole.proofs.largest.refine.Goals as goal
 use Rattle.bounded_whole.proofs.largest.refine.Goals.{At-loop-kept, Else-kept-left, Else-left-kept}
 
 pub loop-kept-init : goal.loop-kept-init
-loop-kept-init c =
-    (first-turn c.requires.bounded_ready c.requires.started_value, refl, refl, refl, refl)
+loop-kept-init c = first-turn c.requires.bounded_ready c.requires.started_value
 
 -- ---- lengths
 spare-long : (loop : At-loop-kept) → length loop.loop-kept.spare ≡ length loop.loop-kept.table
-spare-long loop = loop.loop-kept.invariant.2 ∙ loop.requires.spare_len.0 ∙ sym loop.loop-kept.invariant.1
+spare-long loop = loop.loop-kept.auto.spare ∙ loop.requires.spare_len.0 ∙ sym loop.loop-kept.auto.table
 
 layer-long : (loop : At-loop-kept) → length loop.loop-kept.layer ≡ length loop.loop-kept.table
-layer-long loop = loop.loop-kept.invariant.3 ∙ loop.requires.spare_len.1 ∙ sym loop.loop-kept.invariant.1
+layer-long loop = loop.loop-kept.auto.layer ∙ loop.requires.spare_len.1 ∙ sym loop.loop-kept.auto.table
 
 next-long : (loop : At-loop-kept) → length loop.loop-kept.next ≡ length loop.loop-kept.table
-next-long loop = loop.loop-kept.invariant.4 ∙ loop.requires.spare_len.2 ∙ sym loop.loop-kept.invariant.1
+next-long loop = loop.loop-kept.auto.next ∙ loop.requires.spare_len.2 ∙ sym loop.loop-kept.auto.table
 
 pub strike-left-requires : goal.strike-left-requires
 strike-left-requires c =
     record {
-      bounded_ready = c.loop-kept.invariant.0.ready;
+      bounded_ready = c.loop-kept.invariant.ready;
       layer_len = (layer-long (goal.at.strike-left-requires c).At-loop-kept, next-long (goal.at.strike-left-requires c).At-loop-kept, spare-long (goal.at.strike-left-requires c).At-loop-kept);
     }
 
-pub shape_of-table-then-left-kept : goal.shape_of-table-then-left-kept
-shape_of-table-then-left-kept c = c.loop-kept.invariant.1
-
-pub shape_of-spare-then-left-kept : goal.shape_of-spare-then-left-kept
-shape_of-spare-then-left-kept c = c.strike-left.auto.new ∙ c.loop-kept.invariant.2
-
-pub shape_of-layer-then-left-kept : goal.shape_of-layer-then-left-kept
-shape_of-layer-then-left-kept c = c.strike-left.auto.layer ∙ c.loop-kept.invariant.3
-
-pub shape_of-next-then-left-kept : goal.shape_of-next-then-left-kept
-shape_of-next-then-left-kept c = c.strike-left.auto.next ∙ c.loop-kept.invariant.4
-
 pub returns-then-left-kept : goal.returns-then-left-kept
 returns-then-left-kept c =
-    turn_last c.loop-kept.invariant.0 c.strike-left.ensures.0 c.strike-left.ensures.1 c.if-left-kept.true
+    turn_last c.loop-kept.invariant c.strike-left.ensures.0 c.strike-left.ensures.1 c.if-left-kept.true
 
 fewer : (c : Else-left-kept) → c.strike-left.result < c.loop-kept.kept
-fewer c = turn-less c.loop-kept.invariant.0 c.strike-left.ensures.0 c.strike-left.ensures.1 c.if-left-kept.false
+fewer c = turn-less c.loop-kept.invariant c.strike-left.ensures.0 c.strike-left.ensures.1 c.if-left-kept.false
 
 turn : (c : Else-left-kept) →
-    Turn ((tables c.args.masks.now c.args.offsets.now c.args.targets.now)) c.args.top c.args.table.now ((c.strike-left.new.new)) c.strike-left.result (c.loop-kept.rounds + 1)
-turn c = turn-next c.loop-kept.invariant.0 c.strike-left.ensures.0 c.strike-left.ensures.1 c.if-left-kept.false
+    Turn (tables c.args.masks.now c.args.offsets.now c.args.targets.now) c.args.top c.args.table.now c.strike-left.new.new c.strike-left.result (c.loop-kept.rounds + 1)
+turn c = turn-next c.loop-kept.invariant c.strike-left.ensures.0 c.strike-left.ensures.1 c.if-left-kept.false
 
-written-long : (c : Else-left-kept) → length ((c.strike-left.new.new)) ≡ length c.loop-kept.table
-written-long c = c.strike-left.auto.new ∙ (let fact : length c.loop-kept.spare ≡ length c.loop-kept.table = c.loop-kept.invariant.2 ∙ c.requires.spare_len.0 ∙ sym c.loop-kept.invariant.1 in fact)
+written-long : (c : Else-left-kept) → length c.strike-left.new.new ≡ length c.loop-kept.table
+written-long c = c.strike-left.auto.new ∙ c.loop-kept.auto.spare ∙ c.requires.spare_len.0 ∙ sym c.loop-kept.auto.table
 
 pub overflow_add-rounds : goal.overflow_add-rounds
 overflow_add-rounds c =
-    omega (arith, turn-count c.loop-kept.invariant.0, fewer (goal.at.overflow_add-rounds c).Else-left-kept, c.requires.started_value, c.ranges.top)
+    omega (arith, turn-count c.loop-kept.invariant, fewer (goal.at.overflow_add-rounds c).Else-left-kept, c.requires.started_value, c.ranges.top)
 
 pub strike-kept-requires : goal.strike-kept-requires
 strike-kept-requires c =
@@ -70,29 +57,13 @@ strike-kept-requires c =
       );
     }
 
-pub shape_of-table-then-kept-left : goal.shape_of-table-then-kept-left
-shape_of-table-then-kept-left c =
-    c.strike-kept.auto.new ∙ c.loop-kept.invariant.1
-
-pub shape_of-spare-then-kept-left : goal.shape_of-spare-then-kept-left
-shape_of-spare-then-kept-left c =
-    c.strike-left.auto.new ∙ c.loop-kept.invariant.2
-
-pub shape_of-layer-then-kept-left : goal.shape_of-layer-then-kept-left
-shape_of-layer-then-kept-left c =
-    c.strike-kept.auto.layer ∙ c.strike-left.auto.layer ∙ c.loop-kept.invariant.3
-
-pub shape_of-next-then-kept-left : goal.shape_of-next-then-kept-left
-shape_of-next-then-kept-left c =
-    c.strike-kept.auto.next ∙ c.strike-left.auto.next ∙ c.loop-kept.invariant.4
-
 pub returns-then-kept-left : goal.returns-then-kept-left
 returns-then-kept-left c =
     turn_end (turn (goal.at.returns-then-kept-left c).Else-left-kept) c.strike-kept.ensures.0 c.strike-kept.ensures.1 c.if-kept-left.true
 
 fewer-2 : (c : Else-kept-left) → c.strike-kept.result < c.strike-left.result
 fewer-2 c =
-    turn-less ((let fact : Turn ((tables c.args.masks.now c.args.offsets.now c.args.targets.now)) c.args.top c.args.table.now ((c.strike-left.new.new)) c.strike-left.result (c.loop-kept.rounds + 1) = turn-next c.loop-kept.invariant.0 c.strike-left.ensures.0 c.strike-left.ensures.1 c.if-left-kept.false in fact)) c.strike-kept.ensures.0 c.strike-kept.ensures.1 c.if-kept-left.false
+    turn-less (turn-next c.loop-kept.invariant c.strike-left.ensures.0 c.strike-left.ensures.1 c.if-left-kept.false) c.strike-kept.ensures.0 c.strike-kept.ensures.1 c.if-kept-left.false
 
 pub overflow_add-rounds-in-loop-kept : goal.overflow_add-rounds-in-loop-kept
 overflow_add-rounds-in-loop-kept c =
@@ -102,10 +73,5 @@ pub loop-kept-smaller : goal.loop-kept-smaller
 loop-kept-smaller c = omega (arith, fewer (goal.at.loop-kept-smaller c).Else-left-kept, fewer-2 (goal.at.loop-kept-smaller c).Else-kept-left)
 
 pub loop-kept-preserved : goal.loop-kept-preserved
-loop-kept-preserved c = (
-  turn-next (turn (goal.at.loop-kept-preserved c).Else-left-kept) c.strike-kept.ensures.0 c.strike-kept.ensures.1 c.if-kept-left.false,
-  c.strike-kept.auto.new ∙ c.loop-kept.invariant.1,
-  c.strike-left.auto.new ∙ c.loop-kept.invariant.2,
-  c.strike-kept.auto.layer ∙ c.strike-left.auto.layer ∙ c.loop-kept.invariant.3,
-  c.strike-kept.auto.next ∙ c.strike-left.auto.next ∙ c.loop-kept.invariant.4,
-)
+loop-kept-preserved c =
+    turn-next (turn (goal.at.loop-kept-preserved c).Else-left-kept) c.strike-kept.ensures.0 c.strike-kept.ensures.1 c.if-kept-left.false

@@ -1,7 +1,7 @@
 -- `call_decide::ball::ball_verdict` meets its contract: the first condition that holds decides, or none holds. Assumes nothing.
 use Rattle.base_lists.specs.Kit.{arith, le-ltb, lt-ltb}
-use Rattle.file_format.specs.Reading.{verdict_of}
 use Rattle.file_format.specs.Refusals.{first, centre_outside, short_table}
+use Rattle.file_format.specs.Reply.{verdict_of}
 use Rattle.call_decide.proofs.ball.ball_verdict.Goals as goal
 
 pub returns-then-n-centre : goal.returns-then-n-centre

@@ -1,8 +1,8 @@
 -- `call_decide::bytes::bytes_verdict` meets its contract: the first condition that holds decides, or none holds.
 -- Assumes nothing.
 use Rattle.base_lists.specs.Kit.{le-ltb, lt-ltb, eq-eqb, ne_eqb}
-use Rattle.file_format.specs.Reading.{verdict_of}
 use Rattle.file_format.specs.Refusals.{first, centre_outside, other_length}
+use Rattle.file_format.specs.Reply.{verdict_of}
 use Rattle.call_decide.proofs.bytes.bytes_verdict.Goals as goal
 
 pub returns-then-n-centre : goal.returns-then-n-centre

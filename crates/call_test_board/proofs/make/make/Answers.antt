@@ -1,16 +1,16 @@
 -- `call_test_board::make::make` meets its contract: the test board is drawn, its links are collected, and writing its circuit is not refused. Assumes nothing.
+use Rattle.std.proofs.Common.{Ok}
 use Rattle.base_lists.specs.Kit.{◌≡◌, ◌∙◌, sym, ap, ◌*◌, length, take, arith}
 use Rattle.base_lists.proofs.Parts.{length-take-room}
 use Rattle.file_format.specs.Reading.{filled}
 use Rattle.file_format.specs.Refusals.{accept}
-use Rattle.file_write.specs.declared.WriteAnswer.TheVariants.{Written}
-use Rattle.file_write.specs.Writing.{WriteOutcome, write_reply}
+use Rattle.file_format.specs.Reply.{number_reply}
+use Rattle.file_write.specs.Writing.{WriteOutcome}
 use Rattle.test_board.specs.Board.{test_board}
 use Rattle.test_board.proofs.Board.{test_board-nodes, test_board-parallel}
 use Rattle.test_board_links.specs.Marks.{AllBelow}
-use Rattle.call_test_board.specs.declared.TestBoardAnswer.TheVariants.{Made}
 use Rattle.call_test_board.specs.Call.{test_board_bytes}
-use Rattle.call_test_board.proofs.Making.{pairs_below, links-count, fronts, written, written-size, written-not-refused}
+use Rattle.call_test_board.proofs.Making.{pairs_below, links-count, fronts, written}
 use Rattle.call_test_board.proofs.make.make.Goals as goal
 use Rattle.call_test_board.proofs.make.make.Goals.{After-collect_links-links, After-draw_test_board, After-write_first-written}
 
@@ -62,23 +62,25 @@ pub slice_bounds-write_first-end-3 : goal.slice_bounds-write_first-end-3
 slice_bounds-write_first-end-3 c = sym (sizes (goal.at.slice_bounds-write_first-end-3 c).After-collect_links-links).2
 
 abbrev outcome : After-write_first-written → WriteOutcome
-outcome c = record { answer = c.write_first-written.result; reply = write_reply c.write_first-written.result; out = c.write_first-written.new.out }
+outcome c = record { answer = c.write_first-written.result; reply = number_reply c.write_first-written.result; out = c.write_first-written.new.out }
 
 -- the test board's file stands at the front
 file :
     (c : After-write_first-written) →
     let bytes = test_board_bytes c.args.seed c.args.n c.args.m c.args.k in
-    outcome c ≡ record { answer = Written (length bytes); reply = write_reply (Written (length bytes)); out = filled accept bytes c.args.out.now }
+    outcome c ≡ record { answer = Ok (length bytes); reply = number_reply (Ok (length bytes)); out = filled accept bytes c.args.out.now }
 file c =
     c.write_first-written.ensures ∙ written c.args.seed c.args.n c.args.m c.args.k c.requires.0 _ _ _ _ (fronts c.args.seed c.args.n c.args.m c.args.k c.requires.0 _ _ c.draw_test_board.ensures.pairs_after _ _ _ _ _ _ _ c.draw_test_board.ensures.kinds_after c.collect_links-links.ensures.value c.collect_links-links.ensures.starts_after c.collect_links-links.ensures.pairs_after) c.requires.1
 
-pub returns-in-Written : goal.returns-in-Written
-returns-in-Written c =
-    record {
-      answered = ap Made (written-size _ (outcome (goal.at.returns-in-Written c).After-write_first-written) _ (file (goal.at.returns-in-Written c).After-write_first-written) _ c.in-Written.is);
-      written = ap (λ (o : WriteOutcome). o.out) (file (goal.at.returns-in-Written c).After-write_first-written);
-    }
+-- so that the answer of writing is its length
+size : (c : After-write_first-written) → c.write_first-written.result ≡ Ok (length (test_board_bytes c.args.seed c.args.n c.args.m c.args.k))
+size c = ap (λ (o : WriteOutcome). o.answer) (file c)
 
-pub returns-in-Refused : goal.returns-in-Refused
-returns-in-Refused c =
-    absurd (written-not-refused _ (outcome (goal.at.returns-in-Refused c).After-write_first-written) _ (file (goal.at.returns-in-Refused c).After-write_first-written) _ c.in-Refused.is)
+pub unwrap-requires : goal.unwrap-requires
+unwrap-requires c = rw (size (goal.at.unwrap-requires c).After-write_first-written)
+
+pub returns : goal.returns
+returns c =
+    let told = size (goal.at.returns c).After-write_first-written in
+    let is = c.unwrap.ensures in
+    record { sized = cc; written = ap (λ (o : WriteOutcome). o.out) (file (goal.at.returns c).After-write_first-written) }

@@ -1,11 +1,6 @@
 -- `graph::marked::choose` meets its contract: the chosen ones of the entries passed stand in front. Assumes nothing.
-use Rattle.std.specs.Prelude.{◌-◌}
-use Rattle.base_lists.specs.Kit.{length}
 use Rattle.graph.proofs.Choosing.{ChosenTo}
 use Rattle.graph.proofs.marked.choose.Given as goal
 
 abbrev pub invariant-loop-i : goal.invariant-loop-i
 invariant-loop-i l = ChosenTo l.marks l.initial.xs l.i l.k l.xs
-
-abbrev pub decreases-loop-i : goal.decreases-loop-i
-decreases-loop-i l = length l.marks - l.i

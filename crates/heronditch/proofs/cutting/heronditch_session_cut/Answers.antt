@@ -4,4 +4,4 @@ use Rattle.heronditch.proofs.Session.{host-cut}
 use Rattle.heronditch.proofs.cutting.heronditch_session_cut.Goals as goal
 
 pub returns : goal.returns
-returns c = host-cut c.cut.ensures c.of_cut.ensures
+returns c = host-cut c.cut.ensures c.of_verdict.ensures

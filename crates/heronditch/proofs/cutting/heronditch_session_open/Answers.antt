@@ -6,4 +6,4 @@ use Rattle.heronditch.proofs.cutting.heronditch_session_open.Goals as goal
 pub returns : goal.returns
 returns c =
     rw (← c.editions_of.ensures.0, ← c.editions_of.ensures.1)
-    (host-open _ c.open.ensures c.of_open.ensures)
+    (host-open _ c.open.ensures c.of_verdict.ensures)

@@ -4,4 +4,4 @@ use Rattle.heronditch.proofs.Session.{host-table}
 use Rattle.heronditch.proofs.cutting.heronditch_session_table.Goals as goal
 
 pub returns : goal.returns
-returns c = host-table c.read_out.ensures c.of_out.ensures
+returns c = host-table c.read_out.ensures c.of_number.ensures

@@ -7,4 +7,4 @@ use Rattle.heronditch.proofs.files.heronditch_ball.Goals as goal
 pub returns : goal.returns
 unfolding host_ball
 returns c =
-    rw (c.of_ball.ensures, ← c.edition_of.ensures) (ap host_ball c.ball.ensures)
+    rw (c.of_number.ensures, ← c.edition_of.ensures) (ap host_ball c.ball.ensures)

@@ -7,4 +7,4 @@ use Rattle.heronditch.proofs.files.heronditch_convert.Goals as goal
 pub returns : goal.returns
 unfolding host_convert
 returns c =
-    rw (c.of_convert.ensures, ← c.role_of.ensures, ← c.as_role.ensures, ← c.edition_of.ensures, ← c.edition_of-2.ensures) (ap host_convert c.convert.ensures)
+    rw (c.of_number.ensures, ← c.role_of.ensures, ← c.as_role.ensures, ← c.edition_of.ensures, ← c.edition_of-2.ensures) (ap host_convert c.convert.ensures)

@@ -6,4 +6,4 @@ use Rattle.heronditch.proofs.files.heronditch_radius.Goals as goal
 
 pub returns : goal.returns
 returns c =
-    rw (c.of_radius.ensures, ← c.edition_of.ensures) (ap slots c.radius.ensures)
+    rw (c.of_number.ensures, ← c.edition_of.ensures) (ap slots c.radius.ensures)

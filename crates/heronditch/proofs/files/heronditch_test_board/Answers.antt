@@ -7,4 +7,4 @@ use Rattle.heronditch.proofs.files.heronditch_test_board.Goals as goal
 pub returns : goal.returns
 unfolding host_test_board
 returns c =
-    rw c.of_test_board.ensures (ap host_test_board c.test_board.ensures)
+    rw c.of_number.ensures (ap host_test_board c.test_board.ensures)

@@ -7,4 +7,4 @@ use Rattle.heronditch.proofs.files.heronditch_write.Goals as goal
 pub returns : goal.returns
 unfolding host_write
 returns c =
-    rw (c.of_write.ensures, ← c.role_of.ensures, ← c.as_role.ensures, ← c.edition_of.ensures) (ap host_write c.write.ensures)
+    rw (c.of_number.ensures, ← c.role_of.ensures, ← c.as_role.ensures, ← c.edition_of.ensures) (ap host_write c.write.ensures)

@@ -7,4 +7,4 @@ use Rattle.heronditch.proofs.places.heronditch_bar.Goals as goal
 pub returns : goal.returns
 unfolding host_bar
 returns c =
-    rw (c.of_bar.ensures, ← c.editions_of.ensures.0, ← c.editions_of.ensures.1) (ap host_bar c.bar.ensures)
+    rw (c.of_number.ensures, ← c.editions_of.ensures.0, ← c.editions_of.ensures.1) (ap host_bar c.bar.ensures)

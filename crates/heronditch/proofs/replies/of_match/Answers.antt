@@ -4,10 +4,10 @@ use Rattle.call_match.specs.Call.{reply_of}
 use Rattle.heronditch_reply.specs.Replies.{counted, verdict_number, meant_file}
 use Rattle.heronditch.proofs.replies.of_match.Goals as goal
 
-pub returns-in-Matched : goal.returns-in-Matched
+pub returns-in-Ok : goal.returns-in-Ok
 unfolding counted verdict_number meant_file reply_of no_counts
-returns-in-Matched c = rw (c.in-Matched.is, c.with_counts.ensures)
+returns-in-Ok c = rw (c.in-Ok.is, c.with_counts.ensures)
 
-pub returns-in-Refused : goal.returns-in-Refused
+pub returns-in-Err : goal.returns-in-Err
 unfolding counted verdict_number meant_file reply_of no_counts
-returns-in-Refused c = rw (c.in-Refused.is, c.refused_with.ensures)
+returns-in-Err c = rw (c.in-Err.is, c.refused_with.ensures)

@@ -3,10 +3,10 @@ use Rattle.call_merge.specs.Call.{merge_reply}
 use Rattle.heronditch_reply.specs.Replies.{slots, verdict_number, meant_file}
 use Rattle.heronditch.proofs.replies.of_merge.Goals as goal
 
-pub returns-in-Merged : goal.returns-in-Merged
+pub returns-in-Ok : goal.returns-in-Ok
 unfolding slots verdict_number meant_file merge_reply
-returns-in-Merged c = rw (c.in-Merged.is, c.accepted.ensures)
+returns-in-Ok c = rw (c.in-Ok.is, c.accepted.ensures)
 
-pub returns-in-Refused : goal.returns-in-Refused
+pub returns-in-Err : goal.returns-in-Err
 unfolding slots verdict_number meant_file merge_reply
-returns-in-Refused c = rw (c.in-Refused.is, c.refused.ensures)
+returns-in-Err c = rw (c.in-Err.is, c.refused.ensures)

@@ -3,10 +3,10 @@ use Rattle.place.specs.Outcome.{place_reply}
 use Rattle.heronditch_reply.specs.Replies.{counted, verdict_number, meant_file}
 use Rattle.heronditch.proofs.replies.of_place.Goals as goal
 
-pub returns-in-Placed : goal.returns-in-Placed
+pub returns-in-Ok : goal.returns-in-Ok
 unfolding counted verdict_number meant_file place_reply
-returns-in-Placed c = rw (c.in-Placed.is, c.with_counts.ensures)
+returns-in-Ok c = rw (c.in-Ok.is, c.with_counts.ensures)
 
-pub returns-in-Refused : goal.returns-in-Refused
+pub returns-in-Err : goal.returns-in-Err
 unfolding counted verdict_number meant_file place_reply
-returns-in-Refused c = rw (c.in-Refused.is, c.refused_with.ensures)
+returns-in-Err c = rw (c.in-Err.is, c.refused_with.ensures)

@@ -3,10 +3,10 @@ use Rattle.report_answer.specs.Call.{report_reply}
 use Rattle.heronditch_reply.specs.Replies.{pieced, verdict_number, meant_file}
 use Rattle.heronditch.proofs.replies.of_report.Goals as goal
 
-pub returns-in-Put : goal.returns-in-Put
+pub returns-in-Ok : goal.returns-in-Ok
 unfolding pieced verdict_number meant_file report_reply
-returns-in-Put c = rw (c.in-Put.is, c.put_piece.ensures)
+returns-in-Ok c = rw (c.in-Ok.is, c.put_piece.ensures)
 
-pub returns-in-Refused : goal.returns-in-Refused
+pub returns-in-Err : goal.returns-in-Err
 unfolding pieced verdict_number meant_file report_reply
-returns-in-Refused c = rw (c.in-Refused.is, c.refused_piece.ensures)
+returns-in-Err c = rw (c.in-Err.is, c.refused_piece.ensures)

@@ -6,4 +6,4 @@ use Rattle.heronditch.proofs.shelf.heronditch_shelf.Goals as goal
 
 pub returns : goal.returns
 unfolding host_shelf
-returns c = rw c.of_shelf.ensures (ap host_shelf c.shelf.ensures)
+returns c = rw c.of_number.ensures (ap host_shelf c.shelf.ensures)

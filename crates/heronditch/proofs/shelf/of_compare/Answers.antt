@@ -4,10 +4,10 @@ use Rattle.heronditch.specs.Host.{host_compare}
 use Rattle.heronditch_reply.specs.Replies.{verdict_number, meant_file}
 use Rattle.heronditch.proofs.shelf.of_compare.Goals as goal
 
-pub returns-in-Compared : goal.returns-in-Compared
+pub returns-in-Ok : goal.returns-in-Ok
 unfolding host_compare verdict_number meant_file compare_reply
-returns-in-Compared c = rw (c.in-Compared.is, c.order_number.ensures)
+returns-in-Ok c = rw (c.in-Ok.is, c.order_number.ensures)
 
-pub returns-in-Refused : goal.returns-in-Refused
+pub returns-in-Err : goal.returns-in-Err
 unfolding host_compare verdict_number meant_file compare_reply
-returns-in-Refused c = rw (c.in-Refused.is, c.refused-reply.ensures, c.which_number.ensures)
+returns-in-Err c = rw (c.in-Err.is, c.refused-reply.ensures, c.which_number.ensures)

@@ -1,11 +1,8 @@
 -- `proposal_marks::marks::in_row` meets its contract: the nodes passed were reached, where they are marked. Assumes nothing.
-use Rattle.std.specs.Prelude.{◌≡◌, ◌≤◌, ◌<◌, ◌-◌}
-use Rattle.base_lists.specs.Kit.{ℕ, length, get_or}
+use Rattle.std.specs.Prelude.{◌≡◌, ◌<◌}
+use Rattle.base_lists.specs.Kit.{ℕ, get_or}
 use Rattle.graph.specs.Search.{far}
 use Rattle.proposal_marks.proofs.marks.in_row.Given as goal
 
 abbrev pub invariant-loop-v : goal.invariant-loop-v
-invariant-loop-v l = (l.v ≤ length l.nodes) × ((k : ℕ) → k < l.v → get_or l.nodes k 0 ≡ 1 → get_or l.dist k 0 ≡ far → ⊥)
-
-abbrev pub decreases-loop-v : goal.decreases-loop-v
-decreases-loop-v l = length l.nodes - l.v
+invariant-loop-v l = (k : ℕ) → k < l.v → get_or l.nodes k 0 ≡ 1 → get_or l.dist k 0 ≡ far → ⊥

@@ -1,12 +1,8 @@
 -- `proposal_marks::marks::links_placed` meets its contract: the links passed are in the place. Assumes nothing.
-use Rattle.base_lists.specs.Kit.{◌∙◌, sym, true, arith, rules}
-use borrow.Author.Count.{below_more}
+use Rattle.base_lists.specs.Kit.{◌∙◌, sym, arith, rules}
 use Rattle.base_lists.specs.List.{Below}
 use Rattle.proposal_marks.proofs.Tests.{placed-true, placed-false}
 use Rattle.proposal_marks.proofs.marks.links_placed.Goals as goal
-
-pub loop-i-init : goal.loop-i-init
-loop-i-init c = (search rules, λ k h. let none : ⊥ = omega arith in absurd none)
 
 pub link_placed-requires : goal.link_placed-requires
 unfolding Below
@@ -18,8 +14,5 @@ link_placed-requires c = record {
 pub returns-then-not-link_placed : goal.returns-then-not-link_placed
 returns-then-not-link_placed c = placed-false c.args.starts.now _ _ _ _ c.loop-i.i (search rules) (sym c.link_placed.ensures ∙ c.if-not-link_placed.true)
 
-pub loop-i-preserved : goal.loop-i-preserved
-loop-i-preserved c = (search rules, below_more _ _ c.loop-i.invariant.1 (sym c.link_placed.ensures ∙ c.if-not-link_placed.false))
-
 pub returns : goal.returns
-returns c = placed-true c.args.starts.now _ _ _ _ (λ k h. c.loop-i.invariant.1 k (omega arith))
+returns c = placed-true c.args.starts.now _ _ _ _ (λ k h. c.loop-i.invariant k (omega arith))

@@ -1,17 +1,16 @@
--- `report::lines::put_nodes` meets its contract. The loop's invariant: the nodes below v are put. The measure is how many nodes are left.
--- Assumes nothing.
+-- `report::lines::put_nodes` meets its contract. Assumes nothing.
 use Rattle.std.specs.Prelude.{◌≡◌}
 use Rattle.base_lists.specs.Kit.{ap, ℕ, length, arith}
 use Rattle.base_lists.specs.Below.{concat_below}
 use Rattle.base_lists.proofs.Concat.{concat_below-next}
-use Rattle.base_text.proofs.Text.{put-nothing, put_then, put_same, put-length, fits-then}
+use Rattle.base_text.proofs.Text.{put-nothing, put_then, put_same, fits-then}
 use Rattle.report_texts.specs.Texts.{node_text, nodes_text}
 use Rattle.report_texts.proofs.Items.{fits-piece}
 use Rattle.report.proofs.lines.put_nodes.Goals as goal
 
 pub loop-v-init : goal.loop-v-init
 unfolding concat_below
-loop-v-init c = (omega arith, put-nothing)
+loop-v-init c = put-nothing
 
 pub put_node-end-requires : goal.put_node-end-requires
 unfolding nodes_text
@@ -19,24 +18,15 @@ put_node-end-requires c =
     record {
       names = c.requires.names;
       v_in_bounds = omega arith;
-      fits = fits-then c.loop-v.invariant.1 (fits-piece (length c.args.dist.now) c.loop-v.v (node_text c.args.dist.now) (omega arith) c.requires.fits);
+      fits = fits-then c.loop-v.invariant (fits-piece (length c.args.dist.now) c.loop-v.v (node_text c.args.dist.now) (omega arith) c.requires.fits);
     }
-
-pub overflow_add-v : goal.overflow_add-v
-overflow_add-v c = omega arith
-
-pub loop-v-smaller : goal.loop-v-smaller
-loop-v-smaller c = omega arith
 
 pub loop-v-preserved : goal.loop-v-preserved
 loop-v-preserved c =
-    (omega arith, put_same (concat_below-next c.loop-v.v (node_text c.args.dist.now)) (put_then c.loop-v.invariant.1 c.put_node-end.ensures))
-
-pub shape_of-out : goal.shape_of-out
-shape_of-out c = put-length c.loop-v.invariant.1
+    put_same (concat_below-next c.loop-v.v (node_text c.args.dist.now)) (put_then c.loop-v.invariant c.put_node-end.ensures)
 
 pub returns : goal.returns
 unfolding nodes_text
 returns c =
     let e : c.loop-v.v ≡ length c.args.dist.now = omega arith in
-    put_same (ap (λ (n : ℕ). concat_below n (node_text c.args.dist.now)) e) c.loop-v.invariant.1
+    put_same (ap (λ (n : ℕ). concat_below n (node_text c.args.dist.now)) e) c.loop-v.invariant

@@ -20,4 +20,4 @@ returns-then-size-parts c =
 pub returns : goal.returns
 returns c =
     ruled-none _ c.requires.parts_bound _ c.requires.sets_fit _ (λ e. c.if-size-parts.false (sym (sized (goal.at.returns c).After-size) ∙ e))
-    c.clear.ensures c.none_kept.ensures
+    c.fill.ensures c.none_kept.ensures

@@ -23,5 +23,5 @@ returns-then-counts c =
 
 pub returns-else-counts : goal.returns-else-counts
 returns-else-counts c =
-    c.clear.ensures ∙ ap (λ (k : ℕ). replicate k 0) c.requires.out_len ∙ none-masks
+    c.fill.ensures ∙ ap (λ (k : ℕ). replicate k 0) c.requires.out_len ∙ none-masks
     ∙ ap (λ (b : Bool). Half b c.args.keys.now c.args.values.now) (sym c.if-counts.false)

@@ -1,79 +1,68 @@
--- `table_prepare::masks::masks_of` meets its contract. The loop's invariant: the links that are left, added to the sets so far, make the masks.
--- The measure is how many are left. Assumes nothing.
-use Rattle.std.specs.Prelude.{◌<◌, ◌+◌}
-use Rattle.base_lists.specs.Kit.{◌∙◌, sym, ap, refl, ℕ, length, get_or, drop, set, length-set, arith, rules}
+-- `table_prepare::masks::masks_of` meets its contract: the links that are left, added to the sets so far, make the masks. Assumes nothing.
+use Rattle.std.specs.Prelude.{◌≡◌, ◌∷◌, ◌<◌, ◌^◌, ◌⊎◌}
+use Rattle.std.specs.Iterator.Adapters.{zip_first, zip_second}
+use Rattle.std.specs.Slice.Iter.{iter_rest}
+use Rattle.base_lists.specs.Kit.{◌∙◌, sym, ap, refl, inl, inr, ⊎_map, List, [], ℕ, suc, zero-lt-suc, suc-le-suc, length, get_or, set, length-set, arith, rules}
 use lib.Bits.{bit_or}
 use Rattle.base_lists.specs.List.{Below}
 use Rattle.table.specs.Prepared.{masks_of}
-use Rattle.table.proofs.Masks.{add_links, add-next, add-end, add-masks}
+use Rattle.table.proofs.Masks.{add_links, add-masks}
+use Rattle.table_prepare.proofs.masks.masks_of.Invariants.{Adding}
 use Rattle.table_prepare.proofs.masks.masks_of.Goals as goal
-use Rattle.table_prepare.proofs.masks.masks_of.Goals.{In-loop-i}
 
-pub loop-i-init : goal.loop-i-init
-loop-i-init c =
-    (omega arith, refl, add-masks (length c.args.out.now) c.args.keys.now c.args.values.now _ c.requires.below_2 c.clear.ensures)
+module _ {keys values left right before out : List ℕ} (g : Adding keys values left right before out) where
+  module _ {k x : ℕ} {ks xs : List ℕ} (e : left ≡ k ∷ ks) (q : right ≡ x ∷ xs) where
+    -- the next key has a set, and the value beside it is a part
+    key-known : k < length out
+    unfolding Below
+    key-known = (rw e at g.keys_below) 0 (zero-lt-suc _)
 
--- the next key has a set, and the value beside it is a part
-known : (c : In-loop-i) →
-    (get_or c.args.keys.now c.loop-i.i 0 < length c.loop-i.out)
-    × (c.loop-i.i < length c.args.values.now)
-    × (get_or c.args.values.now c.loop-i.i 0 < 32)
-unfolding Below
-known c =
-    let key = c.requires.below c.loop-i.i (omega arith) in
-    let beside : c.loop-i.i < length c.args.values.now = omega (arith, c.requires.keys_len) in
-    (omega (arith, c.loop-i.invariant.1, c.clear.auto.sets), beside, c.requires.below_2 c.loop-i.i beside)
+    value-known : x < 32
+    unfolding Below
+    value-known = (rw q at g.values_below) 0 (zero-lt-suc _)
 
-pub overflow_cast-u : goal.overflow_cast-u
-overflow_cast-u c = omega (arith, c.type_inv.keys c.loop-i.i)
+    next : {s : ℕ} → s ≡ 2 ^ x → Adding keys values ks xs before (set out k (bit_or (get_or out k 0) s))
+    unfolding Below add_links
+    next d = record {
+      keys_below = λ i h. rw length-set ((rw e at g.keys_below) (suc i) (suc-le-suc h));
+      values_below = λ i h. (rw q at g.values_below) (suc i) (suc-le-suc h);
+      long = length-set _ _ _ ∙ g.long;
+      made = rw d (rw (e, q) at g.made);
+    }
 
-pub offset_bounds-out-u : goal.offset_bounds-out-u
-offset_bounds-out-u c = omega (arith, c.type_inv.keys c.loop-i.i)
-
-pub bounds-out-u : goal.bounds-out-u
-bounds-out-u c = (known (goal.at.bounds-out-u c).In-loop-i).0
-
-pub offset_bounds-values-i : goal.offset_bounds-values-i
-offset_bounds-values-i c =
-    let h = (known (goal.at.offset_bounds-values-i c).In-loop-i).1 in
-    search rules
-
-pub bounds-values-i : goal.bounds-values-i
-bounds-values-i c = (known (goal.at.bounds-values-i c).In-loop-i).1
-
-pub overflow_cast-values : goal.overflow_cast-values
-overflow_cast-values c = omega (arith, (known (goal.at.overflow_cast-values c).In-loop-i).2)
+pub loop-key-init : goal.loop-key-init
+loop-key-init c =
+    let first : iter_rest (zip_first c.into_iter-key-iterator.result) ≡ c.args.keys.now = search rules in
+    let second : iter_rest (zip_second c.into_iter-key-iterator.result) ≡ c.args.values.now = search rules in
+    record {
+      keys_below = rw (first, c.fill.auto.s) c.requires.below;
+      values_below = rw second c.requires.below_2;
+      long = refl;
+      made = rw (first, second) (add-masks (length c.args.out.now) c.args.keys.now c.args.values.now _ c.requires.below_2 c.fill.ensures);
+    }
 
 pub single-requires : goal.single-requires
-single-requires c = (known (goal.at.single-requires c).In-loop-i).2
+single-requires c = value-known c.loop-key.invariant c.in-Some.ensures.steps.0 c.in-Some.ensures.steps.1
 
-pub offset_bounds-out-u-in-loop-i : goal.offset_bounds-out-u-in-loop-i
-offset_bounds-out-u-in-loop-i c = omega (arith, c.type_inv.keys c.loop-i.i)
+pub bounds-out-key : goal.bounds-out-key
+bounds-out-key c = key-known c.loop-key.invariant c.in-Some.ensures.steps.0 c.in-Some.ensures.steps.1
 
-pub bounds-out-u-in-loop-i : goal.bounds-out-u-in-loop-i
-bounds-out-u-in-loop-i c = (known (goal.at.bounds-out-u-in-loop-i c).In-loop-i).0
+pub bounds-out-key-in-loop-key : goal.bounds-out-key-in-loop-key
+bounds-out-key-in-loop-key c = key-known c.loop-key.invariant c.in-Some.ensures.steps.0 c.in-Some.ensures.steps.1
 
-pub overflow_add-i : goal.overflow_add-i
-overflow_add-i c = omega arith
+pub loop-key-preserved : goal.loop-key-preserved
+loop-key-preserved c = next c.loop-key.invariant c.in-Some.ensures.steps.0 c.in-Some.ensures.steps.1 c.single.ensures
 
-pub loop-i-smaller : goal.loop-i-smaller
-loop-i-smaller c = omega arith
-
-pub loop-i-preserved : goal.loop-i-preserved
-loop-i-preserved c =
-    let u = get_or c.args.keys.now c.loop-i.i 0 in (
-      omega arith,
-      simp length-set c.loop-i.invariant.1,
-      ap (λ (x : ℕ). add_links (drop (c.loop-i.i + 1) c.args.keys.now) (drop (c.loop-i.i + 1) c.args.values.now) (set c.loop-i.out u (bit_or (get_or c.loop-i.out u 0) x))) c.single.ensures
-          ∙ add-next c.args.keys.now c.args.values.now c.loop-i.out c.loop-i.i (omega arith) (known (goal.at.loop-i-preserved c).In-loop-i).1
-          ∙ c.loop-i.invariant.2,
-    )
-
-pub shape_of-out : goal.shape_of-out
-shape_of-out c = c.loop-i.invariant.1 ∙ c.clear.auto.sets
+-- past the last link nothing is added
+ended : (keys values out : List ℕ) → (length keys ≡ 0) ⊎ (length values ≡ 0) → add_links keys values out ≡ out
+unfolding add_links
+ended [] values out h = refl
+ended (k ∷ ks) [] out h = refl
+ended (k ∷ ks) (x ∷ xs) out (inl h) = absurd (omega arith)
+ended (k ∷ ks) (x ∷ xs) out (inr h) = absurd (omega arith)
 
 pub returns : goal.returns
 returns c =
-    sym (add-end c.args.keys.now c.args.values.now c.loop-i.out c.loop-i.i c.loop-i-test.false)
-    ∙ c.loop-i.invariant.2
-    ∙ ap (λ (n : ℕ). masks_of n c.args.keys.now c.args.values.now) c.clear.auto.sets
+    let none : (length (iter_rest (zip_first c.loop-key.key-iterator)) ≡ 0) ⊎ (length (iter_rest (zip_second c.loop-key.key-iterator)) ≡ 0) =
+    ⊎_map (λ h. h.1.0) (λ h. h.1.0) c.in-None.ensures.steps in
+    sym (ended _ _ _ none) ∙ c.loop-key.invariant.made ∙ ap (λ (n : ℕ). masks_of n c.args.keys.now c.args.values.now) c.fill.auto.s
