@@ -6,11 +6,11 @@ use Rattle.bounded_layer.specs.Pass.{pass_table, next_layer}
 use Rattle.bounded_strike.specs.Round.{layer_of, passes}
 
 module _ (near : ℕ → List ℕ) (masks old new : List ℕ) where
-  layer-step : (h : ℕ) {layer next : List ℕ} → layer ≡ layer_of near old h → next ≡ next_layer near old layer → next ≡ layer_of near old (suc h)
+  pub layer-step : (h : ℕ) {layer next : List ℕ} → layer ≡ layer_of near old h → next ≡ next_layer near old layer → next ≡ layer_of near old (suc h)
   unfolding layer_of
   layer-step h e q = q ∙ ap (next_layer near old) e
 
-  passes-step :
+  pub passes-step :
       (h : ℕ) {layer new₁ new₂ : List ℕ} → layer ≡ layer_of near old h → new₁ ≡ passes near masks old h new →
       new₂ ≡ pass_table near (part (32 * h) 32 masks) layer new₁ → new₂ ≡ passes near masks old (suc h) new
   unfolding passes

@@ -9,7 +9,7 @@ use Rattle.file_format.specs.declared.Edition.TheVariants.{First, Second}
 use Rattle.file_format.specs.Refusals.{lost_package}
 
 -- the first edition loses one that is other than 0
-lost-some : (ps : List ℕ) (v : ℕ) → v < length ps → (get_or ps v 0 ≡ 0 → ⊥) → lost_package First ps ≡ true
+pub lost-some : (ps : List ℕ) (v : ℕ) → v < length ps → (get_or ps v 0 ≡ 0 → ⊥) → lost_package First ps ≡ true
 unfolding lost_package
 lost-some ps v h other = T_true (at-any (λ p. not (eqb p 0)) ps v h (not_T (eqb (get_or ps v 0) 0) (λ t. other (eqb→eq (get_or ps v 0) 0 t))))
 

@@ -1,8 +1,8 @@
 -- What the merging call's promise means, of its own reply and bytes: a refusal is one of the conditions and keeps both tables; else the
 -- merged file is an accepted pattern file that holds the merged pattern, and the class bytes are the classes of mutual matching, numbered
 -- by their smallest part. Assumes nothing.
-use Rattle.std.specs.Prelude.{◌≡◌, ◌↔◌, ◌&&◌, ◌∷◌, ◌++◌, ◌≤◌, ◌<◌}
-use Rattle.base_lists.specs.Kit.{◌∙◌, sym, refl, true, List, [], ℕ, le_antisymm, leb, le→leb, length, take, drop, get_or-append, take_at, drop_at, arith, eq-eqb, le-ltb}
+use Rattle.std.specs.Prelude.{◌≡◌, ◌↔◌, ◌&&◌, ◌∷◌, ◌++◌, ◌≤◌, ◌<◌, Result, Ok, Err}
+use Rattle.base_lists.specs.Kit.{◌∙◌, sym, ap, refl, true, List, [], ℕ, le_antisymm, leb, le→leb, length, take, drop, get_or-append, take_at, drop_at, arith, eq-eqb, le-ltb}
 use Rattle.base_lists.proofs.Tests.{T_true, both_true}
 use Rattle.graph.specs.Circuit.{Circuit, circuit_graph}
 use Rattle.simulation.specs.Closed.{Relation}
@@ -17,7 +17,7 @@ use Rattle.file_format.specs.Layout.{CircuitFile, in_edition, nodes_of, links_of
 use Rattle.file_format.specs.Links.{links_below, rising}
 use Rattle.file_format.specs.Reading.{filled}
 use Rattle.file_format.specs.Refusals.{accept, refuse, first, file_conditions, link_conditions, asks_connected, Accepted}
-use Rattle.file_format.specs.Reply.{reply}
+use Rattle.file_format.specs.Reply.{Reply, reply}
 use Rattle.file_format.specs.Role.{in_range}
 use Rattle.file_format.proofs.Fields.{length-labels}
 use Rattle.file_format.proofs.Refusals.{accepted, accepted-any, first-parts, range-orders, reply-verdict}
@@ -31,10 +31,28 @@ use Rattle.merge.specs.Merged.{class_of, class_count, classes, merged}
 use Rattle.merge.proofs.Content.{PatternContent, accepted-content}
 use Rattle.merge.proofs.Classes.{leader_of, self-largest, length-classes, class-at, class-iff, class-lt, class-rises, class-onto, equivalent-iff, leader-lt, leader-member, leader-min}
 use Rattle.merge.proofs.Accepted.{merged-content}
-use Rattle.call_merge.specs.Call.{merge_conditions, merged_bytes, merging}
+use Rattle.merge_file.specs.declared.Merged.{Merged}
+use Rattle.call_merge.specs.Call.{merge_conditions, merge_reply, merged_bytes, merging}
 use Rattle.call_merge.specs.Classes.{class_byte, Smallest}
 use Rattle.merge_file.proofs.Written.{content-range, content-sound-in}
 use Rattle.call_merge.proofs.Merging.{verdict-accept}
+
+-- ---- the two cases of the answer, told apart by what document 01 says of them
+
+pub reply-merged : (r : Result Merged Refusal) (count size : ℕ) → merge_reply r ≡ record { verdict = accept; values = count ∷ size ∷ [] }
+    → r ≡ Ok (record { classes = count; size = size })
+unfolding merge_reply
+reply-merged (Ok made) count size e =
+    let v : made.classes ∷ made.size ∷ [] ≡ count ∷ size ∷ [] = ap (λ (p : Reply). p.values) e in
+    let k : made.classes ≡ count = cc in
+    let n : made.size ≡ size = cc in
+    rw (← k, ← n) refl
+reply-merged (Err x) count size e = let apart : refuse x ≡ accept = ap (λ (p : Reply). p.verdict) e in cc
+
+pub reply-refused : (r : Result Merged Refusal) (x : Refusal) → (merge_reply r).verdict ≡ refuse x → r ≡ Err x
+unfolding merge_reply
+reply-refused (Ok made) x e = cc
+reply-refused (Err y) x e = cc
 
 -- ---- the file of a circuit that can be the content of a pattern file, in either edition
 

@@ -91,6 +91,7 @@ pub struct FileRead {
 
 // What a pattern's file may have: from so many nodes (parts, as document 01 calls them) to so many, and so many links;
 // and how wide it may be.
+#[derive(Clone, Copy)]
 pub struct Pattern;
 
 impl Pattern {
@@ -104,6 +105,7 @@ impl Pattern {
 }
 
 // What a board's file may have.
+#[derive(Clone, Copy)]
 pub struct Board;
 
 impl Board {
