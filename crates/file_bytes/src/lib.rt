@@ -20,8 +20,8 @@ fn store(numbers: &[u16], at: usize, out: &mut [u8])
     requires { at + 2 * length numbers.now ≤ length out.old }
     ensures { out.new ≡ stored out.old at numbers.now }
 {
-    for (i, &x) in numbers.iter().enumerate() {
-        store_field(x, at + 2 * i, out);
+    for i in 0..numbers.len() {
+        store_field(numbers[i], at + 2 * i, out);
     }
 }
 

@@ -4,9 +4,10 @@
 ghost use Rattle.std.specs.Prelude.{[], ◌≡◌, ◌≤◌, length};
 ghost use Rattle.file_format.specs.declared.Edition.TheVariants as editions;
 ghost use Rattle.file_format.specs.Label.{packages_in};
-ghost use Rattle.file_format.specs.Reply.{number_reply};
+ghost use Rattle.file_format.specs.Refusals.{first};
+ghost use Rattle.file_format.specs.Reply.{number_reply, verdict_of};
 ghost use Rattle.file_write.specs.Bytes.{kinds_for, LabelsFit};
-ghost use Rattle.file_write.specs.Writing.{writing};
+ghost use Rattle.file_write.specs.Writing.{circuit_conditions, writing};
 
 mod parts;
 
@@ -15,6 +16,21 @@ use file_bytes::put_fields;
 use file_check::check_circuit;
 use file_format::{Board, Edition, Refusal, Role, TOO_SHORT, package_count};
 use file_role::length_of;
+
+// The first condition that turns a circuit away: one of 2 to 6, or 11.
+fn check(
+    role: Role,
+    edition: Edition,
+    kinds: &[u16],
+    packages: &[u16],
+    starts: &[u16],
+    ends: &[u16],
+) -> Result<(), Refusal>
+    ensures { verdict_of result
+        ≡ first (circuit_conditions role edition kinds.now packages.now starts.now ends.now) }
+{
+    check_circuit(role, edition, kinds.len(), packages.len(), starts, ends)
+}
 
 // Writes a circuit's file of an edition in a role to the front of the bytes lent: the file's length; or the refusal,
 // which leaves every byte as it was.
@@ -31,8 +47,8 @@ pub fn write(
         ≡ writing role edition kinds.now packages.now starts.now
         ends.now out.old }
 {
+    check(role, edition, kinds, packages, starts, ends)?;
     let n = kinds.len();
-    check_circuit(role, edition, n, packages.len(), starts, ends)?;
     let size = length_of(edition, n, starts.len());
     if out.len() < size {
         return Err(TOO_SHORT);

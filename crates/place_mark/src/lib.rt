@@ -17,13 +17,13 @@ use table_first::copy;
 
 // A byte for each node, 1 for those of the list. (place_components stores numbers of 16 bits so: one function for both
 // would need `fill_at` over any type, and is no shorter than the loop.)
-fn mark_nodes(list: &[u16], bytes: &mut [u8])
-    requires { Below (length bytes.old) list.now }
-    ensures { bytes.new ≡ marks_of (length bytes.old) list.now }
+fn mark_nodes(list: &[u16], nodes: &mut [u8])
+    requires { Below (length nodes.old) list.now }
+    ensures { nodes.new ≡ marks_of (length nodes.old) list.now }
 {
-    fill(bytes, 0);
+    fill(nodes, 0);
     for &v in list {
-        bytes[v as usize] = 1;
+        nodes[v as usize] = 1;
     }
 }
 

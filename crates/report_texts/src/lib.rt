@@ -3,7 +3,7 @@
 // follows is copied from where it stands in the buffer.
 #![tactic(auto)]
 
-ghost use Rattle.std.specs.Prelude.{cond, ◌++◌, ◌≡◌, ◌+◌, ◌-◌, ◌≤◌, ◌<◌, length};
+ghost use Rattle.std.specs.Prelude.{cond, ◌++◌, ◌≡◌, ◌+◌, ◌-◌, ◌≤◌, ◌<◌, length, get_or};
 ghost use Rattle.base_lists.specs.List.{Below, part};
 ghost use Rattle.base_text.specs.Text.{Put, Fits, Names};
 ghost use Rattle.report_texts.specs.Texts.{node_text, link_text, driven_text, head_text, under, noting};
@@ -73,6 +73,14 @@ fn put_link(
     put_name(names, b'-', w, out, hyphen)
 }
 
+// The i-th node of a list. (A function, so that a wrong order is refused as such.)
+fn node_at(nodes: &[u16], i: usize) -> u16
+    requires { i < length nodes.now }
+    ensures { result ≡ get_or nodes.now i 0 }
+{
+    nodes[i]
+}
+
 // The links from v to the nodes of a list.
 pub fn put_driven(
     names: &[u32],
@@ -89,8 +97,8 @@ pub fn put_driven(
     ensures { let text = driven_text driven sets.now v nodes.now in Put out.old at text out.new result }
 {
     let mut end = at;
-    for &node in nodes {
-        let w = node as usize;
+    for i in 0..nodes.len() {
+        let w = node_at(nodes, i) as usize;
         end = put_link(names, driven, sets[w], v, w, out, end);
     }
     end

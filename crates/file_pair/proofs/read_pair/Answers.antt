@@ -10,10 +10,10 @@ returns-in_err-drawn c =
     let e : c.from_residual.result ≡ Err c.in_err-drawn.field-0.0 = grind (arith, common_steps) in
     rw e (pair-pattern _ _ _ _ _ c.load.ensures c.in_err-drawn.was)
 
+pub returns : goal.returns
+returns c = pair-both _ _ _ _ _ c.load.ensures c.in_ok-drawn.was c.load-2.ensures c.in_ok-given.was
+
 pub returns-in_err-given : goal.returns-in_err-given
 returns-in_err-given c =
     let e : c.from_residual-in_err-given.result ≡ Err c.in_err-given.field-0.0 = grind (arith, common_steps) in
     rw e (pair-board _ _ _ _ _ c.load.ensures c.in_ok-drawn.was c.load-2.ensures c.in_err-given.was)
-
-pub returns : goal.returns
-returns c = pair-both _ _ _ _ _ c.load.ensures c.in_ok-drawn.was c.load-2.ensures c.in_ok-given.was

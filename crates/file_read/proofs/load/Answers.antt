@@ -85,13 +85,13 @@ check_links-requires c =
     let range = same-range c.args.role _ _ (nodes_of ((in_edition c.args.edition c.args.file.now))) (links_of ((in_edition c.args.edition c.args.file.now))) (nodes-are (goal.at.check_links-requires c).After-field_at-m) (links-are (goal.at.check_links-requires c).After-field_at-m) (sized _ _ (none (goal.at.check_links-requires c).In_ok-check_size)).1 in
     (subst (λ (k : ℕ). T (in_range c.args.role c.field_at-n.result k)) (sym starts) range, starts ∙ sym ends)
 
+pub returns : goal.returns
+returns c =
+    let at = goal.at.returns c in
+    links-sound _ _ _ _ _ (standing at.After-fill_links) (none at.In_ok-check_size) c.check_links.ensures c.in_ok-radius.was
+
 pub returns-in_err-radius : goal.returns-in_err-radius
 returns-in_err-radius c =
     let e : c.from_residual-in_err-radius.result ≡ Err c.in_err-radius.field-0.0 = grind (arith, common_steps) in
     let at = goal.at.returns-in_err-radius c in
     rw e (links-turned _ _ _ _ _ (standing at.After-fill_links) (none at.In_ok-check_size) c.check_links.ensures c.in_err-radius.was)
-
-pub returns : goal.returns
-returns c =
-    let at = goal.at.returns c in
-    links-sound _ _ _ _ _ (standing at.After-fill_links) (none at.In_ok-check_size) c.check_links.ensures c.in_ok-radius.was

@@ -7,6 +7,9 @@ use Rattle.file_format.proofs.Reading.{reading-refused, loaded-accepted, loaded-
 use Rattle.file_format.proofs.Refusals.{accepted}
 use Rattle.file_read.proofs.read.Goals as goal
 
+pub returns-in_err-loaded : goal.returns-in_err-loaded
+returns-in_err-loaded c = let e : c.from_residual.result ≡ Err c.in_err-loaded.field-0.0 = grind (arith, common_steps) in rw e (sym (reading-refused _ _ _ _ _ _ _ (loaded-refused c.load.ensures c.in_err-loaded.was)))
+
 pub load-requires : goal.load-requires
 load-requires c = let (n, m) = role-bounds c.args.role in record { for_kinds = n; for_starts = m; for_ends = m }
 
@@ -17,6 +20,3 @@ fill_fitting-requires c =
 
 pub returns : goal.returns
 returns c = c.fill_fitting.ensures _ (loaded-accepted c.load.ensures c.in_ok-loaded.was)
-
-pub returns-in_err-loaded : goal.returns-in_err-loaded
-returns-in_err-loaded c = let e : c.from_residual.result ≡ Err c.in_err-loaded.field-0.0 = grind (arith, common_steps) in rw e (sym (reading-refused _ _ _ _ _ _ _ (loaded-refused c.load.ensures c.in_err-loaded.was)))

@@ -7,15 +7,15 @@ use Rattle.place_mark.proofs.mark_nodes.Goals as goal
 pub loop-v-init : goal.loop-v-init
 loop-v-init c = refl
 
-pub bounds-bytes-v : goal.bounds-bytes-v
+pub bounds-nodes-v : goal.bounds-nodes-v
 unfolding Below
-bounds-bytes-v c =
-    rw (c.loop-v.auto.bytes, c.fill.auto.s) (c.requires c.loop-v.v-index (omega arith))
+bounds-nodes-v c =
+    rw (c.loop-v.auto.nodes, c.fill.auto.s) (c.requires c.loop-v.v-index (omega arith))
 
 pub loop-v-preserved : goal.loop-v-preserved
 loop-v-preserved c =
-    fill-next (λ v. 1) c.args.list.now c.loop-v.bytes c.loop-v.v-index (omega arith) ∙ c.loop-v.invariant
+    fill-next (λ v. 1) c.args.list.now c.loop-v.nodes c.loop-v.v-index (omega arith) ∙ c.loop-v.invariant
 
 pub returns : goal.returns
 returns c =
-    sym (fill_end (λ v. 1) c.args.list.now c.loop-v.bytes c.loop-v.v-index c.loop-v-test.false) ∙ c.loop-v.invariant ∙ ones-marks _ c.args.list.now _ c.fill.ensures
+    sym (fill_end (λ v. 1) c.args.list.now c.loop-v.nodes c.loop-v.v-index c.loop-v-test.false) ∙ c.loop-v.invariant ∙ ones-marks _ c.args.list.now _ c.fill.ensures

@@ -6,4 +6,4 @@ use Rattle.place_mark.proofs.mark_nodes.Given as goal
 
 abbrev pub invariant-loop-v : goal.invariant-loop-v
 invariant-loop-v l =
-    fill_at (λ v. 1) (drop l.v-index l.list) l.bytes ≡ fill_at (λ v. 1) l.list l.initial.bytes
+    fill_at (λ v. 1) (drop l.v-index l.list) l.nodes ≡ fill_at (λ v. 1) l.list l.initial.nodes

@@ -10,5 +10,5 @@ use Rattle.report_texts.proofs.put_driven.Given as goal
 abbrev pub link_to : List ℕ → ℕ → List ℕ → ℕ → ℕ → List ℕ
 link_to nodes driven sets v i = link_text driven (get_or sets (get_or nodes i 0) 0) v (get_or nodes i 0)
 
-abbrev pub invariant-loop-node : goal.invariant-loop-node
-invariant-loop-node l = Put l.initial.out l.at (concat_below l.node-index (link_to l.nodes l.driven l.sets l.v)) l.out l.end
+abbrev pub invariant-loop-i : goal.invariant-loop-i
+invariant-loop-i l = Put l.initial.out l.at (concat_below l.i (link_to l.nodes l.driven l.sets l.v)) l.out l.end
